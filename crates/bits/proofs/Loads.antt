@@ -1,0 +1,182 @@
+-- Loads: whole bytes as bits, and a load that begins inside a byte, put together from two that begin at one.
+-- Assumes nothing.
+use mathlib.Core.Path.{_≡_, refl, sym, _∙_, ap, ap₂}
+use mathlib.Core.List.{List}
+use Prim.Native.Nat.{ℕ, zero, suc, _+_, _-_, _*_, _/_, _%_, _^_, _≤_, _<_}
+use native.Mathlib.Omega.{arith}
+use native.Mathlib.Nat.{zero-add, mul-one, zero-div, div-add-mod'}
+use lib.ListN.{length, getD, List·getD-eq-default}
+use lib.Dec.{lit<, lit≤}
+use lib.Bits.{bitOr, or-shifted, or-zero-r}
+use lib.Pow.{pow-add, low, shl-lt, shl-exact, mod-mod-pow}
+use Rattle.bits.specs.Packed.{weight, bitAt, bitsAt}
+use Rattle.bits.proofs.Weight.{same-weights}
+use Rattle.bits.proofs.Run.{bits-lt, bits-add, bits-first, weight-of-bits, agree→load}
+
+-- bit j of byte b
+pub bit-in-byte : (bytes : List ℕ) (b : ℕ) {j : ℕ} → j < 8 → bitAt bytes (b * 8 + j) ≡ weight (getD bytes b 0) (7 - j)
+unfolding bitAt
+bit-in-byte bytes b {j} h = rw (quotient, remainder)
+  where
+    quotient : (b * 8 + j) / 8 ≡ b
+    quotient = omega arith
+
+    remainder : (b * 8 + j) % 8 ≡ j
+    remainder = omega arith
+
+-- a byte from its eight bits
+pub byte-bits : (bytes : List ℕ) (b : ℕ) → getD bytes b 0 < 256 → bitsAt bytes (b * 8) 8 ≡ getD bytes b 0
+byte-bits bytes b h = same-weights 8 _ _ (bits-lt bytes (b * 8) 8) h each
+  where
+    there : {i : ℕ} → i < 8 → 7 - (7 - i) ≡ i
+    there l = omega arith
+
+    each : (i : ℕ) → i < 8 → weight (bitsAt bytes (b * 8) 8) i ≡ weight (getD bytes b 0) i
+    each i l =
+        weight-of-bits bytes (b * 8) l
+        ∙ bit-in-byte bytes b (omega arith)
+        ∙ ap (λ (n : ℕ). weight (getD bytes b 0) n) (there l)
+
+-- loads of the same whole bytes are the same, wherever the bytes stand
+pub same-bytes : (xs ys : List ℕ) (a b k : ℕ) → ((i : ℕ) → i < k → getD xs (a + i) 0 ≡ getD ys (b + i) 0)
+    → bitsAt xs (a * 8) (k * 8) ≡ bitsAt ys (b * 8) (k * 8)
+same-bytes xs ys a b k e = agree→load xs ys (a * 8) (b * 8) (k * 8) each
+  where
+    apart : (c j : ℕ) → c * 8 + j ≡ (c + j / 8) * 8 + j % 8
+    apart c j = omega arith
+
+    in-byte : (l : List ℕ) (c j : ℕ) → bitAt l (c * 8 + j) ≡ weight (getD l (c + j / 8) 0) (7 - j % 8)
+    in-byte l c j = ap (bitAt l) (apart c j) ∙ bit-in-byte l (c + j / 8) (omega arith)
+
+    each : (j : ℕ) → j < k * 8 → bitAt xs (a * 8 + j) ≡ bitAt ys (b * 8 + j)
+    each j h =
+        in-byte xs a j
+        ∙ ap (λ (x : ℕ). weight x (7 - j % 8)) (e (j / 8) (omega arith))
+        ∙ sym (in-byte ys b j)
+
+-- one byte more of a load of whole bytes
+pub bytes-more : (bytes : List ℕ) (b k : ℕ) → getD bytes (b + k) 0 < 256
+    → bitsAt bytes (b * 8) (suc k * 8) ≡ bitsAt bytes (b * 8) (k * 8) * 256 + getD bytes (b + k) 0
+bytes-more bytes b k h =
+    ap (λ (n : ℕ). bitsAt bytes (b * 8) n) more
+    ∙ bits-add bytes (b * 8) (k * 8) 8
+    ∙ ap (λ (n : ℕ). bitsAt bytes (b * 8) (k * 8) * 256 + bitsAt bytes n 8) there
+    ∙ ap (λ (x : ℕ). bitsAt bytes (b * 8) (k * 8) * 256 + x) (byte-bits bytes (b + k) h)
+  where
+    more : suc k * 8 ≡ k * 8 + 8
+    more = omega arith
+
+    there : b * 8 + k * 8 ≡ (b + k) * 8
+    there = omega arith
+
+-- The k bits from p + r on are the last k − r of those from p on, and then the first r of the s bits that follow these:
+-- a shift to the left by r within k bits, and a shift to the right by s − r of what follows.
+pub unaligned : (bytes : List ℕ) (p k s r : ℕ) → r ≤ k → r ≤ s
+    → bitOr ((bitsAt bytes p k * 2 ^ r) % 2 ^ k) (bitsAt bytes (p + k) s / 2 ^ (s - r)) ≡ bitsAt bytes (p + r) k
+unaligned bytes p k s r hk hs =
+    ap₂ bitOr left (bits-first bytes (p + k) hs)
+    ∙ or-shifted rest r (bitsAt bytes (p + k) r) (bits-lt bytes (p + k) r)
+    ∙ sym joined
+  where
+    whole : (k - r) + r ≡ k
+    whole = omega arith
+
+    apart : k ≡ r + (k - r)
+    apart = omega arith
+
+    rest : ℕ
+    rest = bitsAt bytes (p + r) (k - r)
+
+    power : 2 ^ (k - r) * 2 ^ r ≡ 2 ^ k
+    power = sym (pow-add 2 (k - r) r) ∙ ap (λ (n : ℕ). 2 ^ n) whole
+
+    fits : rest * 2 ^ r < 2 ^ k
+    fits = rw whole at (shl-lt (k - r) r (bits-lt bytes (p + r) (k - r)))
+
+    parts : bitsAt bytes p k ≡ bitsAt bytes p r * 2 ^ (k - r) + rest
+    parts = ap (λ (n : ℕ). bitsAt bytes p n) apart ∙ bits-add bytes p r (k - r)
+
+    moved : bitsAt bytes p k * 2 ^ r ≡ bitsAt bytes p r * 2 ^ k + rest * 2 ^ r
+    moved = rw (parts, ← power) (omega arith)
+
+    left : (bitsAt bytes p k * 2 ^ r) % 2 ^ k ≡ rest * 2 ^ r
+    left = ap (λ (x : ℕ). x % 2 ^ k) moved ∙ low (bitsAt bytes p r) k fits
+
+    follows : (p + r) + (k - r) ≡ p + k
+    follows = omega arith
+
+    joined : bitsAt bytes (p + r) k ≡ rest * 2 ^ r + bitsAt bytes (p + k) r
+    joined =
+        ap (λ (n : ℕ). bitsAt bytes (p + r) n) (sym whole)
+        ∙ bits-add bytes (p + r) (k - r) r
+        ∙ ap (λ (n : ℕ). rest * 2 ^ r + bitsAt bytes n r) follows
+
+-- The same where whole bytes are at hand: c bytes from the byte of bit p on, shifted, and the byte that follows them.
+pub load-at : (bytes : List ℕ) (p c : ℕ) → 0 < c → getD bytes (p / 8 + c) 0 < 256
+    → bitOr ((bitsAt bytes (p / 8 * 8) (c * 8) * 2 ^ (p % 8)) % 2 ^ (c * 8)) (getD bytes (p / 8 + c) 0 / 2 ^ (8 - p % 8))
+    ≡ bitsAt bytes p (c * 8)
+load-at bytes p c hc hb =
+    ap (λ (x : ℕ). bitOr ((bitsAt bytes (p / 8 * 8) (c * 8) * 2 ^ (p % 8)) % 2 ^ (c * 8)) (x / 2 ^ (8 - p % 8))) follows
+    ∙ unaligned bytes (p / 8 * 8) (c * 8) 8 (p % 8) (omega arith) (omega arith)
+    ∙ ap (λ (n : ℕ). bitsAt bytes n (c * 8)) (div-add-mod' p 8)
+  where
+    there : (p / 8 + c) * 8 ≡ p / 8 * 8 + c * 8
+    there = omega arith
+
+    follows : getD bytes (p / 8 + c) 0 ≡ bitsAt bytes (p / 8 * 8 + c * 8) 8
+    follows = sym (byte-bits bytes (p / 8 + c) hb) ∙ ap (λ (n : ℕ). bitsAt bytes n 8) there
+
+-- at one byte, which a machine shifts within 64 bits
+pub byte-load-at : (bytes : List ℕ) (p : ℕ) → ((i : ℕ) → getD bytes i 0 < 256)
+    → bitOr ((getD bytes (p / 8) 0 * 2 ^ (p % 8)) % 2 ^ 64 % 256) (getD bytes (p / 8 + 1) 0 / 2 ^ (8 - p % 8)) ≡ bitsAt bytes p 8
+byte-load-at bytes p h =
+    ap (λ (x : ℕ). bitOr x (getD bytes (p / 8 + 1) 0 / 2 ^ (8 - p % 8))) left ∙ load-at bytes p 1 (omega arith) (h (p / 8 + 1))
+  where
+    left : (getD bytes (p / 8) 0 * 2 ^ (p % 8)) % 2 ^ 64 % 256 ≡ (bitsAt bytes (p / 8 * 8) 8 * 2 ^ (p % 8)) % 2 ^ 8
+    left =
+        mod-mod-pow (getD bytes (p / 8) 0 * 2 ^ (p % 8)) 56 8
+        ∙ ap (λ (x : ℕ). (x * 2 ^ (p % 8)) % 2 ^ 8) (sym (byte-bits bytes (p / 8) (h (p / 8))))
+
+-- with nothing behind them
+pub load-at-end : (bytes : List ℕ) (p c : ℕ) → 0 < c → length bytes ≤ p / 8 + c
+    → (bitsAt bytes (p / 8 * 8) (c * 8) * 2 ^ (p % 8)) % 2 ^ (c * 8) ≡ bitsAt bytes p (c * 8)
+load-at-end bytes p c hc hl = sym (or-zero-r shifted) ∙ ap (bitOr shifted) (sym nothing) ∙ load-at bytes p c hc (rw none (lit< tt))
+  where
+    shifted : ℕ
+    shifted = (bitsAt bytes (p / 8 * 8) (c * 8) * 2 ^ (p % 8)) % 2 ^ (c * 8)
+
+    none : getD bytes (p / 8 + c) 0 ≡ 0
+    none = List·getD-eq-default bytes 0 hl
+
+    nothing : getD bytes (p / 8 + c) 0 / 2 ^ (8 - p % 8) ≡ 0
+    nothing = rw (none, zero-div)
+
+-- bytes joined by shifts and `or`: one byte more behind the k that are joined, with room for s bits behind it
+pub join-byte : (xs : List ℕ) (k s : ℕ) {x b : ℕ} → getD xs k 0 ≡ b → b < 256 → s ≤ 56
+    → x ≡ bitsAt xs 0 (k * 8) * 2 ^ (8 + s) → bitOr x ((b * 2 ^ s) % 2 ^ 64) ≡ bitsAt xs 0 (suc k * 8) * 2 ^ s
+join-byte xs k s {x} {b} eb h l ex =
+    ap₂ bitOr ex (shl-exact 8 s 64 h (omega arith))
+    ∙ or-shifted joined (8 + s) (b * 2 ^ s) (shl-lt 8 s h)
+    ∙ ap (λ (y : ℕ). joined * y + b * 2 ^ s) (pow-add 2 8 s)
+    ∙ regroup
+    ∙ ap (λ (y : ℕ). y * 2 ^ s) (sym more)
+  where
+    joined : ℕ
+    joined = bitsAt xs 0 (k * 8)
+
+    regroup : joined * (256 * 2 ^ s) + b * 2 ^ s ≡ (joined * 256 + b) * 2 ^ s
+    regroup = omega arith
+
+    there : getD xs (0 + k) 0 ≡ b
+    there = rw zero-add eb
+
+    more : bitsAt xs 0 (suc k * 8) ≡ joined * 256 + b
+    more = bytes-more xs 0 k (rw there h) ∙ ap (λ (y : ℕ). joined * 256 + y) there
+
+-- and the last one, behind which nothing comes
+pub join-last : (xs : List ℕ) (k : ℕ) {x b : ℕ} → getD xs k 0 ≡ b → b < 256
+    → x ≡ bitsAt xs 0 (k * 8) * 256 → bitOr x b ≡ bitsAt xs 0 (suc k * 8)
+join-last xs k {x} {b} eb h ex = ap (bitOr x) unmoved ∙ join-byte xs k 0 eb h (lit≤ tt) ex ∙ mul-one _
+  where
+    unmoved : b ≡ (b * 1) % 2 ^ 64
+    unmoved = omega arith

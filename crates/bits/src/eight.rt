@@ -1,0 +1,38 @@
+// Eight bits from a bit number, by themselves, on any input.
+use crate::Place;
+use crate::load;
+ghost use mathlib.Core.Path.{_≡_};
+ghost use Rattle.bits.specs.Packed.{Packed};
+ghost use Rattle.bits.specs.Eight.{eightAt};
+
+// Why eight bits are refused. `numberOf` of specs/Eight.antt has document 01's number of each.
+pub enum Refusal {
+    // The bit count is above 2^30.
+    TooLong,
+    // There are fewer bytes than the bit count takes.
+    FewBytes,
+    // The eight bits run past the last bit.
+    PastEnd,
+}
+
+pub enum Eight {
+    Bits(u8),
+    Refused(Refusal),
+}
+
+// The bits p to p + 7 of the first n bits, as a byte with bit p leftmost.
+pub fn eight_bits(bytes: &[u8], n: u64, p: Place) -> Eight
+    ensures { λ r. ⌜ r ≡ eightAt (record { bytes = now (bytes .entry); count = n }) (p .0) ⌝ }
+{
+    if 1073741824 < n {
+        return Eight::Refused(Refusal::TooLong);
+    }
+    if (bytes.len() as u64) < (n + 7) / 8 {
+        return Eight::Refused(Refusal::FewBytes);
+    }
+    let at = p.0;
+    if n < at as u64 + 8 {
+        return Eight::Refused(Refusal::PastEnd);
+    }
+    Eight::Bits(load::byte_at(bytes, p))
+}

@@ -1,0 +1,40 @@
+// Reading bits of a packed run: the two units of position, one bit, eight bits with their refusals, and loads of
+// up to 64 bits for the matchers. The definitions that the contracts cite are in specs/Packed.antt and specs/Eight.antt.
+ghost use mathlib.Core.Path.{_≡_};
+ghost use Prim.Native.Nat.{_*_, _/_, _%_, _^_, _<_};
+
+pub mod bit;
+pub mod eight;
+pub mod load;
+
+// A bit number, counted from 0. Document 01's own word for it is "place".
+pub struct Place(pub u32);
+
+// A byte number, counted from 0.
+pub struct ByteNo(pub usize);
+
+impl Place {
+    // The byte that holds the bit.
+    pub fn byte(self) -> ByteNo
+        ensures { λ r. ⌜ r .0 ≡ self .0 / 8 ⌝ }
+    {
+        ByteNo((self.0 / 8) as usize)
+    }
+
+    // The bit's offset from the left of its byte.
+    pub fn offset(self) -> u32
+        ensures { λ r. ⌜ r ≡ self .0 % 8 ⌝ }
+    {
+        self.0 % 8
+    }
+}
+
+impl ByteNo {
+    // The leftmost bit of the byte. For the matchers, whose bytes lie within a recording.
+    pub fn place(self) -> Place
+        requires { ⌜ self .0 < 2 ^ 29 ⌝ }
+        ensures { λ r. ⌜ r .0 ≡ self .0 * 8 ⌝ }
+    {
+        Place((self.0 * 8) as u32)
+    }
+}

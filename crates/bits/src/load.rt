@@ -1,0 +1,100 @@
+// Loads of several bits, for the matchers. Bits past the last byte read as 0, and nothing outside the lent bytes is read.
+use crate::Place;
+ghost use mathlib.Core.Path.{_≡_};
+ghost use Prim.Native.Nat.{_+_, _-_, _*_, _^_, _≤_};
+ghost use mathlib.Core.List.{[], _∷_};
+ghost use lib.ListN.{length, getD};
+ghost use Rattle.bits.specs.Packed.{bitsAt};
+
+// Eight bytes as one number, the first one highest.
+fn join(a: u8, b: u8, c: u8, d: u8, e: u8, f: u8, g: u8, h: u8) -> u64
+    ensures { λ r. ⌜ r ≡ bitsAt (a ∷ b ∷ c ∷ d ∷ e ∷ f ∷ g ∷ h ∷ []) 0 64 ⌝ }
+{
+    ((a as u64) << 56)
+        | ((b as u64) << 48)
+        | ((c as u64) << 40)
+        | ((d as u64) << 32)
+        | ((e as u64) << 24)
+        | ((f as u64) << 16)
+        | ((g as u64) << 8)
+        | (h as u64)
+}
+
+fn wide(x: u8) -> u64
+    ensures { λ r. ⌜ r ≡ x ⌝ }
+{
+    x as u64
+}
+
+// Byte b, 0 past the last one.
+fn byte_or_zero(bytes: &[u8], b: usize) -> u64
+    ensures { λ r. ⌜ r ≡ getD (now (bytes .entry)) b 0 ⌝ }
+{
+    if b < bytes.len() { wide(bytes[b]) } else { 0 }
+}
+
+// The eight bits from p on.
+pub fn byte_at(bytes: &[u8], p: Place) -> u8
+    ensures { λ r. ⌜ r ≡ bitsAt (now (bytes .entry)) (p .0) 8 ⌝ }
+{
+    let b = p.byte().0;
+    let r = p.offset();
+    let left = (byte_or_zero(bytes, b) << r) % 256;
+    let right = byte_or_zero(bytes, b + 1) >> (8 - r);
+    (left | right) as u8
+}
+
+// Eight whole bytes from byte b on, the first one highest: one machine load and a byte swap.
+fn eight_bytes(bytes: &[u8], b: usize) -> u64
+    requires { ⌜ b + 8 ≤ length (now bytes) ⌝ }
+    ensures { λ r. ⌜ r ≡ bitsAt (now (bytes .entry)) (b * 8) 64 ⌝ }
+{
+    join(
+        bytes[b],
+        bytes[b + 1],
+        bytes[b + 2],
+        bytes[b + 3],
+        bytes[b + 4],
+        bytes[b + 5],
+        bytes[b + 6],
+        bytes[b + 7],
+    )
+}
+
+// The same near the end of the bytes, one at a time.
+fn last_bytes(bytes: &[u8], b: usize) -> u64
+    requires { ⌜ b + 8 ≤ 2 ^ 32 ⌝ }
+    ensures { λ r. ⌜ r ≡ bitsAt (now (bytes .entry)) (b * 8) 64 ⌝ }
+{
+    let mut x: u64 = 0;
+    let mut k: usize = 0;
+    while k < 8 {
+        x = x * 256 + byte_or_zero(bytes, b + k);
+        k += 1;
+    }
+    x
+}
+
+// The 64 bits from p on.
+pub fn word_at(bytes: &[u8], p: Place) -> u64
+    ensures { λ r. ⌜ r ≡ bitsAt (now (bytes .entry)) (p .0) 64 ⌝ }
+{
+    let b = p.byte().0;
+    let r = p.offset();
+    if b + 8 < bytes.len() {
+        (eight_bytes(bytes, b) << r) | (wide(bytes[b + 8]) >> (8 - r))
+    } else {
+        last_bytes(bytes, b) << r
+    }
+}
+
+// The k bits from p on, left-aligned in 64.
+pub fn bits_at(bytes: &[u8], p: Place, k: u32) -> u64
+    requires { ⌜ k ≤ 64 ⌝ }
+    ensures { λ r. ⌜ r ≡ bitsAt (now (bytes .entry)) (p .0) k * 2 ^ (64 - k) ⌝ }
+{
+    if k == 0 {
+        return 0;
+    }
+    (word_at(bytes, p) >> (64 - k)) << (64 - k)
+}
