@@ -4,11 +4,7 @@ use mathlib.Core.Path.{_≡_, refl}
 use mathlib.Core.List.{List, [], _∷_}
 use Prim.Native.Nat.{ℕ, _^_}
 use Rattle.bits.specs.Packed.{Packed, bitAt, bitsAt}
-use Rattle.bits.specs.Eight.{eightAt, numberOf}
-use Rattle.bits.specs.declared.eight.Eight.{Eight}
-use Rattle.bits.specs.declared.eight.Eight.the-variants.{Bits, Refused}
-use Rattle.bits.specs.declared.eight.Refusal.{Refusal}
-use Rattle.bits.specs.declared.eight.Refusal.the-variants.{TooLong, FewBytes, PastEnd}
+use Rattle.bits.specs.Eight.{eightAt, byte, number}
 
 -- 0110 0100 1000 1001 1010 0101 0001 0100 1001, and four bits that do not count
 abbrev pub r1 : List ℕ
@@ -20,13 +16,12 @@ of n = record { bytes = r1; count = n }
 pub record Examples : Type 0 where
   pub first-bits : bitsAt r1 0 4 ≡ 0b0110
   pub last-bit : bitAt r1 35 ≡ 1
-  pub inside : eightAt (of 36) 11 ≡ Bits 0b01001101
-  pub at-the-end : eightAt (of 36) 28 ≡ Bits 0b01001001
-  pub past-the-end : eightAt (of 36) 29 ≡ Refused PastEnd
-  pub short : eightAt (of 41) 0 ≡ Refused FewBytes
-  pub nine-bits-one-byte : eightAt (record { bytes = 0 ∷ []; count = 9 }) 0 ≡ Refused FewBytes
-  pub long : eightAt (of 1073741825) 29 ≡ Refused TooLong
-  pub numbers : (numberOf TooLong ≡ 1) × (numberOf FewBytes ≡ 2) × (numberOf PastEnd ≡ 6)
+  pub inside : eightAt (of 36) 11 ≡ byte 0b01001101
+  pub at-the-end : eightAt (of 36) 28 ≡ byte 0b01001001
+  pub past-the-end : eightAt (of 36) 29 ≡ number 6
+  pub short : eightAt (of 41) 0 ≡ number 2
+  pub nine-bits-one-byte : eightAt (record { bytes = 0 ∷ []; count = 9 }) 0 ≡ number 2
+  pub long : eightAt (of 1073741825) 29 ≡ number 1
 
 pub examples : Examples
 unfolding bitAt bitsAt eightAt
@@ -40,5 +35,4 @@ examples =
       short = refl;
       nine-bits-one-byte = refl;
       long = refl;
-      numbers = (refl, refl, refl);
     }

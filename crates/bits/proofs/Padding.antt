@@ -9,16 +9,14 @@ use borrow.Author.Tests.{le-ltb, ltb-false}
 use lib.Dec.{ltb}
 use lib.ListN.{length}
 use Rattle.bits.specs.Packed.{bytesFor, bitsAt, AgreeBelow}
-use Rattle.bits.specs.Eight.{eightAt, pick}
-use Rattle.bits.specs.declared.eight.Eight.{Eight}
-use Rattle.bits.specs.declared.eight.Eight.the-variants.{Bits}
+use Rattle.bits.specs.Eight.{Verdict, byte, eightAt, pick}
 use Rattle.bits.proofs.Run.{agree→load}
 
 -- several bits that lie below n
 pub bits-below : (a b : List ℕ) (n p k : ℕ) → AgreeBelow n a b → p + k ≤ n → bitsAt a p k ≡ bitsAt b p k
 bits-below a b n p k e h = agree→load a b p p k (λ j l. e (p + j) (omega arith))
 
-pick-same : (v : Bool) (x y z : Eight) → (v ≡ false → y ≡ z) → pick v x y ≡ pick v x z
+pick-same : (v : Bool) (x y z : Verdict) → (v ≡ false → y ≡ z) → pick v x y ≡ pick v x z
 pick-same true x y z e = refl
 pick-same false x y z e = e refl
 
@@ -29,4 +27,4 @@ unfolding eightAt
 eight-below a b n p ha hb e =
     rw (le-ltb _ _ ha, le-ltb _ _ hb)
     (pick-same (ltb (2 ^ 30) n) _ _ _
-    (λ _. pick-same (ltb n (p + 8)) _ _ _ (λ q. ap Bits (bits-below a b n p 8 e (ltb-false n (p + 8) q)))))
+    (λ _. pick-same (ltb n (p + 8)) _ _ _ (λ q. ap byte (bits-below a b n p 8 e (ltb-false n (p + 8) q)))))

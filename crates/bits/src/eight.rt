@@ -2,10 +2,9 @@
 use crate::Place;
 use crate::load;
 ghost use mathlib.Core.Path.{_≡_};
-ghost use Rattle.bits.specs.Packed.{Packed};
-ghost use Rattle.bits.specs.Eight.{eightAt};
+ghost use Rattle.bits.specs.Eight.{verdictOf, eightAt};
 
-// Why eight bits are refused. `numberOf` of specs/Eight.antt has document 01's number of each.
+// Why eight bits are refused. `numberOf` of specs/Eight.antt has the number of each.
 pub enum Refusal {
     // The bit count is above 2^30.
     TooLong,
@@ -22,7 +21,7 @@ pub enum Eight {
 
 // The bits p to p + 7 of the first n bits, as a byte with bit p leftmost.
 pub fn eight_bits(bytes: &[u8], n: u64, p: Place) -> Eight
-    ensures { λ r. ⌜ r ≡ eightAt (record { bytes = now (bytes .entry); count = n }) (p .0) ⌝ }
+    ensures { λ r. ⌜ verdictOf r ≡ eightAt (record { bytes = now (bytes .entry); count = n }) (p .0) ⌝ }
 {
     if 1073741824 < n {
         return Eight::Refused(Refusal::TooLong);
