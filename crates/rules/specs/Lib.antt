@@ -1,0 +1,11 @@
+-- What each method finds and how the machine makes its steps, in the order of document 01: a reader believes these definitions.
+pub mod Ranges
+pub mod Pattern
+pub mod Occurrence
+pub mod Plain
+pub mod Hash
+pub mod Skip
+pub mod Wide
+pub mod Step
+pub mod Machine
+pub mod Papers

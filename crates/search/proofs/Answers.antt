@@ -1,0 +1,153 @@
+-- The promise of the search call leaves nothing open: each request has an answer that meets it, and only one. (The first
+-- 4,224 cells of the scratch are free.)
+use Prim.Native.Nat.{ℕ}
+use mathlib.Core.Path.{_≡_, refl, sym, ap, _∙_}
+use mathlib.Core.Bool.{cond}
+use mathlib.Core.Logic.{_⊎_, inl, inr}
+use mathlib.Core.List.{List, [], _∷_, _++_, map, List·Memᴰ, List·Memᴰ·head, List·Memᴰ·tail, List·Memᴰ·not-nil, List·Memᴰ·cases-cons}
+use native.Mathlib.Omega.{arith}
+use lib.Dec.{eqb}
+use lib.ListN.{length, drop}
+use Rattle.search.specs.declared.Answer.{Answer}
+use Rattle.search.specs.declared.Outcome.{Outcome}
+use Rattle.search.specs.declared.Outcome.the-variants.{Accepted, Refused}
+use Rattle.search.specs.declared.Refusal.{Refusal}
+use Rattle.search.specs.declared.Refusal.the-variants.{TextTooLong, TextBytesMissing, PatternLength, PatternBytesMissing, PatternTooShort, MarkBeyondPlaces, ScratchTooShort}
+use Rattle.search.specs.declared.Stop.{Stop}
+use Rattle.search.specs.declared.Stop.the-variants.{Done, Full, Spent}
+use Rattle.rules.specs.Machine.{Ending, done, spent, full, Run}
+use Rattle.search.specs.Verdict.{Request, Row, Verdict, refused, accepted, machine, verdict, numberOfRefusal, endingOf, Carries, Searched}
+use Rattle.search.proofs.Verdict.{in-order, refused-iff, accepted-fail, accepted-iff}
+
+-- back from a number to the refusal, and from an ending to the way to stop
+refusalOf : ℕ → Refusal
+refusalOf k =
+    cond (eqb k 1) TextTooLong
+    (cond (eqb k 2) TextBytesMissing
+    (cond (eqb k 3) PatternLength
+    (cond (eqb k 4) PatternBytesMissing
+    (cond (eqb k 5) PatternTooShort
+    (cond (eqb k 6) MarkBeyondPlaces ScratchTooShort)))))
+
+refusal-back : (r : Refusal) → refusalOf (numberOfRefusal r) ≡ r
+unfolding refusalOf
+refusal-back TextTooLong = refl
+refusal-back TextBytesMissing = refl
+refusal-back PatternLength = refl
+refusal-back PatternBytesMissing = refl
+refusal-back PatternTooShort = refl
+refusal-back MarkBeyondPlaces = refl
+refusal-back ScratchTooShort = refl
+
+stopFor : Ending → Stop
+stopFor done = Done
+stopFor spent = Spent
+stopFor (full p) = Full (record { 0 = p })
+
+stop-back : (s : Stop) → stopFor (endingOf s) ≡ s
+unfolding stopFor
+stop-back Done = refl
+stop-back (Full p) = refl
+stop-back Spent = refl
+
+ending-back : (e : Ending) → endingOf (stopFor e) ≡ e
+unfolding stopFor
+ending-back done = refl
+ending-back spent = refl
+ending-back (full p) = refl
+
+answerFor : Run → Answer
+answerFor r =
+    record {
+      steps = r .steps;
+      hits = length (r .written);
+      mark = record { at = record { 0 = r .mark } };
+      stop = stopFor (r .ending);
+    }
+
+carries-only : (a : Answer) (r : Run) → Carries a r → a ≡ answerFor r
+unfolding answerFor
+carries-only a r c = λ i. record {
+  steps = c .steps i;
+  hits = c .hits i;
+  mark = record { at = record { 0 = c .mark i } };
+  stop = (sym (stop-back (a .stop)) ∙ ap stopFor (c .ending)) i;
+}
+
+accepted-not-refused : (v : Verdict Run) (r : Run) (k : ℕ) → v ≡ accepted r → v ≡ refused k → ⊥
+accepted-not-refused v r k p q = let z : _≡_ {A = ℕ} 0 1 = cc in omega arith
+
+-- one answer, and one list as the call returns
+pub unique : (q : Request) (o p : Outcome) (l m s u : List ℕ) → Searched q o l s → Searched q p m u → (o ≡ p) × (l ≡ m)
+unique q (Accepted a) (Accepted b) l m s u c d = (
+  ap {B = Outcome} Accepted (carries-only a (machine q) (c .answer) ∙ sym (carries-only b (machine q) (d .answer))),
+  c .list-is ∙ sym (d .list-is),
+)
+unique q (Accepted a) (Refused r) l m s u c d = absurd (accepted-not-refused (verdict q) _ _ (c .verdict-is) (d .verdict-is))
+unique q (Refused r) (Accepted a) l m s u c d = absurd (accepted-not-refused (verdict q) _ _ (d .verdict-is) (c .verdict-is))
+unique q (Refused r) (Refused t) l m s u c d =
+    let first = c .verdict-is in
+    let second = d .verdict-is in
+    let same : numberOfRefusal r ≡ numberOfRefusal t = cc in
+    (ap {B = Outcome} Refused (sym (refusal-back r) ∙ ap refusalOf same ∙ refusal-back t), c .list-is ∙ sym (d .list-is))
+
+-- each number of the table has its refusal
+Each : (ℕ → Type 0) → List ℕ → Type 0
+Each P [] = Unit
+Each P (x ∷ l) = P x × Each P l
+
+at-member : (P : ℕ → Type 0) (l : List ℕ) → Each P l → (k : ℕ) → List·Memᴰ k l → P k
+unfolding Each
+at-member P [] h k m = absurd (List·Memᴰ·not-nil m)
+at-member P (x ∷ l) h k m = go (at-member P l (h .1) k) (List·Memᴰ·cases-cons m)
+  where
+    go : (List·Memᴰ k l → P k) → (k ≡ x) ⊎ List·Memᴰ k l → P k
+    go ih (inl e) = rw e (h .0)
+    go ih (inr n) = ih n
+
+number-in : (earlier : List Row) (row : Row) (others : List Row)
+    → List·Memᴰ (row .number) (map (λ (r : Row). r .number) (earlier ++ row ∷ others))
+number-in [] row others = List·Memᴰ·head refl
+number-in (r ∷ l) row others = List·Memᴰ·tail (number-in l row others)
+
+numbered : (q : Request) (k : ℕ) → verdict q ≡ refused k → numberOfRefusal (refusalOf k) ≡ k
+unfolding refusalOf Each
+numbered q k h =
+    let g = refused-iff q k .0 h in
+    let there : List·Memᴰ (g .row .number) (1 ∷ 2 ∷ 3 ∷ 4 ∷ 5 ∷ 6 ∷ 7 ∷ []) =
+    rw (in-order q) at (rw (← (g .here)) at (number-in (g .earlier) (g .row) (g .others))) in
+    at-member (λ n. numberOfRefusal (refusalOf n) ≡ n) _ (refl, (refl, (refl, (refl, (refl, (refl, (refl, tt))))))) k (rw (g .number) at there)
+
+-- an answer for each request
+pub record Answered (q : Request) : Type 0 where
+  pub outcome : Outcome
+  pub list : List ℕ
+  pub scratch : List ℕ
+  pub searched : Searched q outcome list scratch
+
+pub answered : (q : Request) → Answered q
+unfolding answerFor
+answered q = go (verdict q) refl
+  where
+    go : (v : Verdict Run) → verdict q ≡ v → Answered q
+    go (refused k) e =
+        record {
+          outcome = Refused (refusalOf k);
+          list = q .list;
+          scratch = q .scratch;
+          searched = record { verdict-is = e ∙ ap {B = Verdict Run} refused (sym (numbered q k e)); list-is = refl; scratch-is = refl };
+        }
+    go (accepted r) e =
+        record {
+          outcome = Accepted (answerFor (machine q));
+          list = machine q .written ++ drop (length (machine q .written)) (q .list);
+          scratch = q .scratch;
+          searched =
+              record {
+                verdict-is = accepted-iff q .1 (accepted-fail q r e);
+                answer = record { steps = refl; hits = refl; mark = refl; ending = ending-back (machine q .ending) };
+                list-is = refl;
+                scratch-length = refl;
+                scratch-rest = refl;
+              };
+        }

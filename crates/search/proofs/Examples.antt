@@ -1,0 +1,46 @@
+-- The small examples of the refusals and of the program hold: each computes.
+use mathlib.Core.Path.{refl}
+use Rattle.bits.specs.Packed.{bitAt, bitsAt}
+use Rattle.rules.specs.Ranges.{every, among, least, greatest}
+use Rattle.rules.specs.Pattern.{agrees}
+use Rattle.rules.specs.Occurrence.{matches, occurs, occurrences}
+use Rattle.rules.specs.Plain.{fromBits, inRow, rowBit, maskBit, rowByte, rowMask, rowFits, plainFinds}
+use Rattle.rules.specs.Hash.{meets, hashOf, hashAgain, lastEight, hashFinds, hashNext}
+use Rattle.rules.specs.Skip.{shows, shownAt, skipFinds}
+use Rattle.rules.specs.Wide.{counts, stands, flagged, wideFinds, lastIndex, wideNext}
+use Rattle.rules.specs.Step.{finds, ahead, next}
+use Rattle.rules.specs.Machine.{stopped, cut, after, run}
+use Rattle.search.specs.Verdict.{rows, judge, verdict, hashVerdict}
+use Rattle.search.specs.Examples.{Examples}
+
+pub examples : Examples
+unfolding bitAt bitsAt every among least greatest agrees matches occurs occurrences fromBits inRow rowBit maskBit rowByte rowMask rowFits plainFinds meets hashOf hashAgain lastEight hashFinds hashNext shows shownAt skipFinds counts stands flagged wideFinds lastIndex wideNext finds ahead next stopped cut after run rows judge verdict hashVerdict
+examples =
+    record {
+      no-1 = refl;
+      no-2 = refl;
+      no-3 = refl;
+      no-3-long = refl;
+      no-4 = refl;
+      no-5 = refl;
+      no-5-skip = refl;
+      no-6 = refl;
+      no-7 = refl;
+      all-hold = refl;
+      from-5 = refl;
+      from-6 = refl;
+      long-text = refl;
+      long-pattern = refl;
+      hash-8 = refl;
+      skip-15 = refl;
+      at-end = refl;
+      prints-plain = refl;
+      prints-hash = refl;
+      prints-skip = refl;
+      prints-wide = refl;
+      flag-past = refl;
+      h-value = refl;
+      h-3 = refl;
+      h-4 = refl;
+      h-5 = refl;
+    }

@@ -1,0 +1,6 @@
+-- The laws of the definitions and the theorems about them; the files have the names of those in specs/.
+pub mod Verdict
+pub mod Answers
+pub mod Calls
+pub mod Padding
+pub mod Examples

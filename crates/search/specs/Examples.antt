@@ -1,0 +1,68 @@
+-- The small examples of the table of refusals ("When the panel says no"), what it names as accepted, the program's
+-- example, and a flag past the last place.
+use Prim.Native.Nat.{ℕ, _-_, _^_}
+use mathlib.Core.Path.{_≡_}
+use mathlib.Core.Bool.{true, false}
+use mathlib.Core.List.{[], _∷_}
+use lib.ListN.{replicate}
+use Rattle.bits.specs.Packed.{Packed}
+use Rattle.rules.specs.declared.Method.{Method}
+use Rattle.rules.specs.declared.Method.the-variants.{Plain, Hash, Skip, Wide}
+use Rattle.rules.specs.Pattern.{Pattern}
+use Rattle.rules.specs.Wide.{stands}
+use Rattle.rules.specs.Machine.{done}
+use Rattle.search.specs.Verdict.{Request, refused, accepted, textTooLong, patternLength, machine, verdict, hashVerdict}
+use Rattle.rules.specs.Papers.{R1, V1, V2, ones5, ones3, wholeRun}
+
+-- a request with a mark and so many cells of scratch
+abbrev pub ask : Method → Packed → Pattern → ℕ → ℕ → Request
+ask x t w s cells =
+    record {
+      text = t;
+      pattern = w;
+      method = x;
+      mark = s;
+      budget = 2 ^ 32 - 1;
+      list = replicate 40 0;
+      scratch = replicate cells 0;
+    }
+
+-- so many bits in so many bytes
+abbrev pub text : ℕ → ℕ → Packed
+text n bytes = record { bytes = replicate bytes 0; count = n }
+
+abbrev pub pattern : ℕ → ℕ → Pattern
+pattern m bytes = record { bytes = replicate bytes 0; count = m }
+
+pub record Examples : Type 0 where
+  pub no-1 : verdict (ask Plain (text 1073741825 1) V1 0 4224) ≡ refused 1
+  pub no-2 : verdict (ask Plain (text 9 1) V1 0 4224) ≡ refused 2
+  pub no-3 : verdict (ask Plain R1 (pattern 0 1) 0 4224) ≡ refused 3
+  pub no-3-long : verdict (ask Plain R1 (pattern 2049 257) 0 4224) ≡ refused 3
+  pub no-4 : verdict (ask Plain R1 (pattern 9 1) 0 4224) ≡ refused 4
+  pub no-5 : verdict (ask Hash R1 (pattern 7 1) 0 4224) ≡ refused 5
+  pub no-5-skip : verdict (ask Skip R1 (pattern 14 2) 0 4224) ≡ refused 5
+  pub no-6 : verdict (ask Plain R1 V1 28 4224) ≡ refused 6
+  pub no-7 : verdict (ask Plain R1 V1 0 4223) ≡ refused 7
+  -- where several conditions hold the first one is given
+  pub all-hold : verdict (ask Hash (text 1073741825 1) (pattern 0 0) 1 0) ≡ refused 1
+  pub from-5 : verdict (ask Hash R1 (pattern 7 1) 31 0) ≡ refused 5
+  pub from-6 : verdict (ask Wide R1 V1 28 0) ≡ refused 6
+  -- "Accepted: n = 2^30, m = 2,048, hash with m = 8, skip with m = 15, mark = E."
+  pub long-text : textTooLong (text (2 ^ 30) 1) .holds ≡ false
+  pub long-pattern : patternLength (pattern 2048 256) .holds ≡ false
+  pub hash-8 : verdict (ask Hash R1 (pattern 8 1) 0 4224) ≡ accepted (machine (ask Hash R1 (pattern 8 1) 0 4224))
+  pub skip-15 : verdict (ask Skip R1 (pattern 15 2) 0 4224) ≡ accepted (machine (ask Skip R1 (pattern 15 2) 0 4224))
+  pub at-end : verdict (ask Plain R1 V1 27 4224) ≡ accepted (machine (ask Plain R1 V1 27 4224))
+  -- what `hits` prints for V1 and R1: "plain 27 1 11", "hash 5 1 11", "skip refused 5", "wide 1 1 11"
+  pub prints-plain : wholeRun Plain R1 V1 40 ≡ record { steps = 27; written = 11 ∷ []; mark = 27; ending = done }
+  pub prints-hash : wholeRun Hash R1 V1 40 ≡ record { steps = 5; written = 11 ∷ []; mark = 27; ending = done }
+  pub prints-skip : verdict (ask Skip R1 V1 0 4224) ≡ refused 5
+  pub prints-wide : wholeRun Wide R1 V1 40 ≡ record { steps = 1; written = 11 ∷ []; mark = 27; ending = done }
+  -- "Bits from n on never matter": the flag of place 3 for 111 in 11111 stands by bits 3 and 4, though 3 is no place
+  pub flag-past : stands ones5 ones3 0 3 ≡ true
+  -- H(B) by itself
+  pub h-value : hashVerdict V2 0b01100101 ≡ accepted 2
+  pub h-3 : hashVerdict (pattern 0 1) 0 ≡ refused 3
+  pub h-4 : hashVerdict (pattern 9 1) 0 ≡ refused 4
+  pub h-5 : hashVerdict (pattern 7 1) 0 ≡ refused 5

@@ -1,0 +1,4 @@
+-- What a call answers, and what is claimed of every list of calls: a reader believes these definitions.
+pub mod Verdict
+pub mod Calls
+pub mod Examples
