@@ -1,0 +1,96 @@
+-- The examples of document 01 that belong to the position list file, and edges of the format: one collection, about the
+-- definitions to which writer and reader are equated.
+use Prim.Native.Nat.{_^_, _-_}
+use mathlib.Core.Path.{_≡_, refl}
+use mathlib.Core.List.{[], _∷_}
+use Rattle.positions.specs.Basics.{ok, fault}
+use Rattle.positions.specs.Encode.{encode, encodeFrom, encodeNumber, groups, rising, risesFrom}
+use Rattle.positions.specs.Decode.{decode, whole, readBody, readPosition, readNumber, readGroups, lastGroup}
+use Rattle.positions.specs.Promise.{writeAnswer, count, refused, leaves, readCells}
+
+-- Document 01, "Papers from the course", the starred row of the file, each way
+pub record Papers : Type 0 where
+  pub three : encode (0 ∷ 6 ∷ 12 ∷ []) ≡ 0x03 ∷ 0x00 ∷ 0x05 ∷ 0x05 ∷ []
+  pub one : encode (300 ∷ []) ≡ 0x01 ∷ 0xAC ∷ 0x02 ∷ []
+  pub none : encode [] ≡ 0x00 ∷ []
+  pub three-back : decode (0x03 ∷ 0x00 ∷ 0x05 ∷ 0x05 ∷ []) 3 ≡ ok (0 ∷ 6 ∷ 12 ∷ [])
+  pub one-back : decode (0x01 ∷ 0xAC ∷ 0x02 ∷ []) 1 ≡ ok (300 ∷ [])
+  pub none-back : decode (0x00 ∷ []) 0 ≡ ok []
+
+pub papers : Papers
+unfolding encode encodeFrom encodeNumber groups decode whole readBody readPosition readNumber readGroups lastGroup
+papers = record { three = refl; one = refl; none = refl; three-back = refl; one-back = refl; none-back = refl }
+
+-- Document 01, "When the panel says no", rows 8 to 14; rows 10 to 13 with one cell
+pub record Refusals : Type 0 where
+  pub no8 : writeAnswer (6 ∷ 6 ∷ []) 2 ≡ refused 8
+  pub no9 : writeAnswer (300 ∷ []) 2 ≡ refused 9
+  pub no10 : decode (0x01 ∷ []) 1 ≡ fault 10
+  pub no11 : decode (0x01 ∷ 0x80 ∷ 0x00 ∷ []) 1 ≡ fault 11
+  pub no12 : decode (0x01 ∷ 0x80 ∷ 0x80 ∷ 0x80 ∷ 0x80 ∷ 0x04 ∷ []) 1 ≡ fault 12
+  pub no13 : decode (0x00 ∷ 0x00 ∷ []) 1 ≡ fault 13
+  pub no14 : decode (0x01 ∷ 0x05 ∷ []) 0 ≡ fault 14
+
+pub refusals : Refusals
+unfolding writeAnswer rising risesFrom encode encodeFrom encodeNumber groups decode whole readBody readPosition readNumber readGroups lastGroup
+refusals = record { no8 = refl; no9 = refl; no10 = refl; no11 = refl; no12 = refl; no13 = refl; no14 = refl }
+
+-- edges: the largest position and one more, five groups, the largest count, an empty file
+pub record Edges : Type 0 where
+  pub largest : encode ((2 ^ 30 - 1) ∷ []) ≡ 0x01 ∷ 0xFF ∷ 0xFF ∷ 0xFF ∷ 0xFF ∷ 0x03 ∷ []
+  pub largest-back : decode (0x01 ∷ 0xFF ∷ 0xFF ∷ 0xFF ∷ 0xFF ∷ 0x03 ∷ []) 1 ≡ ok ((2 ^ 30 - 1) ∷ [])
+  pub largest-taken : writeAnswer ((2 ^ 30 - 1) ∷ []) 6 ≡ count 6
+  pub too-large : writeAnswer ((2 ^ 30) ∷ []) 6 ≡ refused 8
+  pub both : writeAnswer (6 ∷ 6 ∷ []) 0 ≡ refused 8
+  pub by-distance : decode (0x02 ∷ 0xFF ∷ 0xFF ∷ 0xFF ∷ 0xFF ∷ 0x03 ∷ 0x00 ∷ []) 2 ≡ fault 12
+  pub above : decode (0x81 ∷ 0x80 ∷ 0x80 ∷ 0x80 ∷ 0x04 ∷ []) 1 ≡ fault 12
+  pub largest-count : decode (0x80 ∷ 0x80 ∷ 0x80 ∷ 0x80 ∷ 0x04 ∷ []) 1 ≡ fault 14
+  pub largest-count-cells : decode (0x80 ∷ 0x80 ∷ 0x80 ∷ 0x80 ∷ 0x04 ∷ []) (2 ^ 30) ≡ fault 10
+  pub zero-fifth : decode (0x80 ∷ 0x80 ∷ 0x80 ∷ 0x80 ∷ 0x00 ∷ []) 1 ≡ fault 11
+  pub no-fifth : decode (0x80 ∷ 0x80 ∷ 0x80 ∷ 0x80 ∷ []) 1 ≡ fault 10
+  pub sixth : decode (0x80 ∷ 0x80 ∷ 0x80 ∷ 0x80 ∷ 0x80 ∷ []) 1 ≡ fault 12
+  pub empty : decode [] 1 ≡ fault 10
+  pub left-over : decode (0x03 ∷ 0x00 ∷ 0x05 ∷ 0x05 ∷ 0x00 ∷ []) 3 ≡ fault 13
+  pub cells-first : decode (0x02 ∷ 0x80 ∷ 0x00 ∷ []) 1 ≡ fault 14
+
+pub edges : Edges
+unfolding writeAnswer rising risesFrom encode encodeFrom encodeNumber groups decode whole readBody readPosition readNumber readGroups lastGroup
+edges =
+    record {
+      largest = refl;
+      largest-back = refl;
+      largest-taken = refl;
+      too-large = refl;
+      both = refl;
+      by-distance = refl;
+      above = refl;
+      largest-count = refl;
+      largest-count-cells = refl;
+      zero-fifth = refl;
+      no-fifth = refl;
+      sixth = refl;
+      empty = refl;
+      left-over = refl;
+      cells-first = refl;
+    }
+
+-- what stands in the buffers: a target and cells that already hold something
+pub record Buffers : Type 0 where
+  pub written : leaves (writeAnswer (300 ∷ []) 5) (encode (300 ∷ [])) (1 ∷ 2 ∷ 3 ∷ 4 ∷ 5 ∷ []) ≡ 0x01 ∷ 0xAC ∷ 0x02 ∷ 4 ∷ 5 ∷ []
+  pub not-written : leaves (writeAnswer (300 ∷ []) 2) (encode (300 ∷ [])) (1 ∷ 2 ∷ []) ≡ 1 ∷ 2 ∷ []
+  pub read : readCells (decode (0x02 ∷ 0x00 ∷ 0x05 ∷ []) 4) (7 ∷ 7 ∷ 7 ∷ 7 ∷ []) ≡ 0 ∷ 6 ∷ 7 ∷ 7 ∷ []
+  pub not-read : readCells (decode (0x02 ∷ 0x00 ∷ []) 4) (7 ∷ 7 ∷ 7 ∷ 7 ∷ []) ≡ 7 ∷ 7 ∷ 7 ∷ 7 ∷ []
+
+pub buffers : Buffers
+unfolding writeAnswer leaves readCells rising risesFrom encode encodeFrom encodeNumber groups decode whole readBody readPosition readNumber readGroups lastGroup
+buffers = record { written = refl; not-written = refl; read = refl; not-read = refl }
+
+-- the whole collection
+pub record All : Type 0 where
+  pub of-papers : Papers
+  pub of-refusals : Refusals
+  pub of-edges : Edges
+  pub of-buffers : Buffers
+
+pub all : All
+all = record { of-papers = papers; of-refusals = refusals; of-edges = edges; of-buffers = buffers }

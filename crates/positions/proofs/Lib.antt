@@ -1,0 +1,15 @@
+-- `RoundTrip` has the theorems about the file, `StrictlyRising` what a list that the writer takes is, `Examples` the examples of document 01.
+-- The others are laws that these and the functions' proofs cite: `Groups` and `Rising` of what is written, `ReadGroups`, `ReadBody`
+-- and `Decoded` of what is read, `Stores` and `Answers` of buffers and answers, `ReadBack` and `Accepted` of the two directions.
+pub mod RoundTrip
+pub mod Examples
+pub mod Groups
+pub mod Rising
+pub mod StrictlyRising
+pub mod ReadGroups
+pub mod ReadBody
+pub mod Decoded
+pub mod Stores
+pub mod Answers
+pub mod ReadBack
+pub mod Accepted

@@ -1,0 +1,129 @@
+-- Laws of `readPosition` and `readBody`: which way reading goes, by what is read first.
+use Prim.Native.Nat.{ℕ, zero, suc, _+_, _-_, _≤_, _<_}
+use mathlib.Core.Path.{_≡_, refl, sym, ap, _∙_}
+use mathlib.Core.Bool.{true, false≢true}
+use mathlib.Core.List.{List, [], _∷_}
+use native.Mathlib.Omega.{arith}
+use native.Mathlib.Decide.{decLt}
+use borrow.Author.Tests.{lt-ltb, le-ltb}
+use lib.ListN.{length, drop, drop-of-length-le}
+use lib.Seq.{drop-cons}
+use Rattle.positions.specs.Basics.{limit, pick, Result, ok, fault, andThen, isEmpty}
+use Rattle.positions.specs.Decode.{readNumber, readPosition, readBody, whole}
+use Rattle.positions.specs.Promise.{Answer, count, refused, readAnswer}
+use Rattle.positions.specs.Inner.{accepts, positionsOf}
+use Rattle.positions.proofs.ReadGroups.{fault-ok, ok-pair}
+
+-- ---- one position
+
+pub position-fault : (next : ℕ) (bytes : List ℕ) (n : ℕ) → readNumber bytes ≡ fault n → readPosition next bytes ≡ fault n
+unfolding readPosition
+position-fault next bytes n e = rw e
+
+pub position-ok : (next : ℕ) (bytes : List ℕ) (m : ℕ) (rest : List ℕ) → readNumber bytes ≡ ok (m, rest) → next + m < limit
+    → readPosition next bytes ≡ ok (next + m, rest)
+unfolding readPosition
+position-ok next bytes m rest e h = rw (e, lt-ltb (next + m) limit h)
+
+pub position-large : (next : ℕ) (bytes : List ℕ) (m : ℕ) (rest : List ℕ) → readNumber bytes ≡ ok (m, rest) → limit ≤ next + m
+    → readPosition next bytes ≡ fault 12
+unfolding readPosition
+position-large next bytes m rest e h = rw (e, le-ltb (next + m) limit h)
+
+-- a position that is read: its number, and that it is below the limit
+pub position-taken : (next : ℕ) (bytes : List ℕ) (p : ℕ) (rest : List ℕ) → readPosition next bytes ≡ ok (p, rest)
+    → (m : ℕ) × (readNumber bytes ≡ ok (m, rest)) × (p ≡ next + m) × (p < limit)
+unfolding readPosition
+position-taken next bytes p rest e = go (readNumber bytes) refl
+  where
+    go : (r : Result (ℕ × List ℕ)) → readNumber bytes ≡ r → (m : ℕ) × (readNumber bytes ≡ ok (m, rest)) × (p ≡ next + m) × (p < limit)
+    go (fault n) h = absurd (fault-ok (rw h at e))
+    go (ok r) h =
+        elim (decLt (next + r .0) limit) [
+          | yes l ↦
+              let q = ok-pair (rw (h, lt-ltb (next + r .0) limit l) at e) in
+              (r .0, h ∙ ap (λ (t : List ℕ). ok (r .0, t)) (q .1), sym (q .0), omega (arith, q .0))
+          | no l ↦ absurd (fault-ok (rw (h, le-ltb (next + r .0) limit (omega arith)) at e))
+        ]
+
+-- ---- the body
+
+-- a position in front of a body's
+abbrev pub behind : ℕ → Result (List ℕ × List ℕ) → Result (List ℕ × List ℕ)
+behind p r = andThen r (λ b. ok (p ∷ b .0, b .1))
+
+pub body-fault : (left next : ℕ) (bytes : List ℕ) (n : ℕ) → 0 < left → readPosition next bytes ≡ fault n → readBody left next bytes ≡ fault n
+unfolding readBody
+body-fault zero next bytes n h e = absurd (omega arith)
+body-fault (suc k) next bytes n h e = rw e
+
+pub body-suc : (k next : ℕ) (bytes : List ℕ) (p : ℕ) (rest : List ℕ) → readPosition next bytes ≡ ok (p, rest)
+    → readBody (suc k) next bytes ≡ behind p (readBody k (p + 1) rest)
+unfolding readBody
+body-suc k next bytes p rest e = rw e
+
+pub body-step : (left next : ℕ) (bytes : List ℕ) (p : ℕ) (rest : List ℕ) → 0 < left → readPosition next bytes ≡ ok (p, rest)
+    → readBody left next bytes ≡ behind p (readBody (left - 1) (p + 1) rest)
+body-step zero next bytes p rest h e = absurd (omega arith)
+body-step (suc k) next bytes p rest h e =
+    let s : k ≡ suc k - 1 = omega arith in
+    body-suc k next bytes p rest e ∙ ap (λ (j : ℕ). behind p (readBody j (p + 1) rest)) s
+
+-- ---- what the first pass finds out: the answer after k positions and this body
+
+unfoldable pub judged : ℕ → Result (List ℕ × List ℕ) → Answer
+judged k (ok b) = pick (isEmpty (b .1)) (count (k + length (b .0))) (refused 13)
+judged k (fault n) = refused n
+
+pub judged-all : (r : Result (List ℕ × List ℕ)) → judged 0 r ≡ readAnswer (whole r)
+unfolding judged whole readAnswer
+judged-all (fault n) = refl
+judged-all (ok b) = go (b .1)
+  where
+    go : (rest : List ℕ) → pick (isEmpty rest) (count (0 + length (b .0))) (refused 13) ≡ readAnswer (pick (isEmpty rest) (ok (b .0)) (fault 13))
+    go [] = ap count (omega arith)
+    go (x ∷ xs) = refl
+
+pub judged-behind : (k p : ℕ) (r : Result (List ℕ × List ℕ)) → judged k (behind p r) ≡ judged (k + 1) r
+unfolding judged
+judged-behind k p (fault n) = refl
+judged-behind k p (ok b) =
+    let e : k + suc (length (b .0)) ≡ k + 1 + length (b .0) = omega arith in
+    ap (λ (n : ℕ). pick (isEmpty (b .1)) (count n) (refused 13)) e
+
+-- behind the last position: bytes left over, or none
+pub judged-left : (k next : ℕ) (file : List ℕ) (at : ℕ) → at < length file → judged k (readBody 0 next (drop at file)) ≡ refused 13
+unfolding judged readBody
+judged-left k next file at h = rw (drop-cons file at 0 h)
+
+pub judged-whole : (k next : ℕ) (file : List ℕ) (at : ℕ) → length file ≤ at → judged k (readBody 0 next (drop at file)) ≡ count k
+unfolding judged readBody
+judged-whole k next file at h = rw (drop-of-length-le file h) (ap count (omega arith))
+
+-- ---- what the second pass stores
+
+pub accepts-behind : (p : ℕ) (r : Result (List ℕ × List ℕ)) → accepts (behind p r) ≡ accepts r
+accepts-behind p (ok b) = refl
+accepts-behind p (fault n) = refl
+
+pub positions-behind : (p : ℕ) (r : Result (List ℕ × List ℕ)) → accepts r ≡ true → positionsOf (behind p r) ≡ p ∷ positionsOf r
+positions-behind p (ok b) h = refl
+positions-behind p (fault n) h = absurd (false≢true h)
+
+-- a body has as many positions as were asked for
+pub body-length : (k next : ℕ) (bytes : List ℕ) → accepts (readBody k next bytes) ≡ true → length (positionsOf (readBody k next bytes)) ≡ k
+unfolding readBody
+body-length zero next bytes h = refl
+body-length (suc k) next bytes h = go (readPosition next bytes) refl (λ p rest. body-length k (p + 1) rest)
+  where
+    go : (r : Result (ℕ × List ℕ)) → readPosition next bytes ≡ r
+        → ((p : ℕ) (rest : List ℕ) → accepts (readBody k (p + 1) rest) ≡ true → length (positionsOf (readBody k (p + 1) rest)) ≡ k)
+        → length (positionsOf (readBody (suc k) next bytes)) ≡ suc k
+    go (fault n) e ih = absurd (false≢true (sym (ap accepts (body-fault (suc k) next bytes n (omega arith) e)) ∙ h))
+    go (ok r) e ih =
+        let s = body-suc k next bytes (r .0) (r .1) e in
+        let body = readBody k (r .0 + 1) (r .1) in
+        let a : accepts body ≡ true = sym (accepts-behind (r .0) body) ∙ sym (ap accepts s) ∙ h in
+        ap (λ (x : Result (List ℕ × List ℕ)). length (positionsOf x)) s
+        ∙ ap length (positions-behind (r .0) body a)
+        ∙ ap suc (ih (r .0) (r .1) a)

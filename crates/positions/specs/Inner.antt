@@ -1,0 +1,24 @@
+-- What the contracts of the private functions cite: no public promise rests on it.
+use Prim.Native.Nat.{ℕ}
+use mathlib.Core.Bool.{Bool, true, false}
+use mathlib.Core.List.{List, []}
+use lib.ListN.{drop}
+use Rattle.positions.specs.Basics.{Result, ok, fault}
+use Rattle.positions.specs.Promise.{readRefusal}
+use Rattle.positions.specs.declared.number.Reading.{Reading}
+use Rattle.positions.specs.declared.number.Reading.the-variants.{Number, Refused}
+
+-- what the code found in a file: a number and the bytes from the index after it on, or a fault
+abbrev pub readingIn : List ℕ → Reading → Result (ℕ × List ℕ)
+readingIn file (Number n after) = ok (n, drop after file)
+readingIn file (Refused r) = fault (readRefusal r)
+
+-- whether there is no fault
+abbrev pub accepts : {A : Type 0} → Result A → Bool
+accepts (ok a) = true
+accepts (fault n) = false
+
+-- the positions of a body
+abbrev pub positionsOf : Result (List ℕ × List ℕ) → List ℕ
+positionsOf (ok b) = b .0
+positionsOf (fault n) = []

@@ -1,0 +1,111 @@
+// The reader of the position list file: one pass over the bytes judges them, a second one stores the positions.
+ghost use mathlib.Core.Path.{_≡_};
+ghost use mathlib.Core.Bool.{true};
+ghost use Prim.Native.Nat.{_≤_};
+ghost use lib.ListN.{length, drop};
+ghost use lib.Seq.{sets};
+ghost use Rattle.positions.specs.Basics.{limit};
+ghost use Rattle.positions.specs.Decode.{readPosition, readBody, whole};
+ghost use Rattle.positions.specs.Promise.{readGives, readAnswer, Reads};
+ghost use Rattle.positions.specs.Inner.{readingIn, accepts, positionsOf};
+use crate::LIMIT;
+use crate::ReadAnswer;
+use crate::ReadRefusal;
+use crate::number;
+use crate::number::Reading;
+
+// The position that stands at `at`, where `next` is the least that may stand there.
+fn position(file: &[u8], at: usize, next: u32) -> Reading
+    requires { ⌜ next ≤ limit ⌝ }
+    ensures { λ r. ⌜ readingIn (now (file .entry)) r ≡ readPosition next (drop at (now (file .entry))) ⌝ }
+{
+    let found = number::read(file, at);
+    match found {
+        Reading::Refused(why) => Reading::Refused(why),
+        Reading::Number(n, after) => {
+            let p = next + n;
+            if p < LIMIT {
+                Reading::Number(p, after)
+            } else {
+                Reading::Refused(ReadRefusal::TooLarge)
+            }
+        }
+    }
+}
+
+// Judges the file behind its count, and stores nothing.
+fn judge(file: &[u8], start: usize, count: u32) -> ReadAnswer
+    ensures { λ r. ⌜ readGives r ≡ readAnswer (whole (readBody count 0 (drop start (now (file .entry))))) ⌝ }
+{
+    let mut at = start;
+    let mut next: u32 = 0;
+    let mut left = count;
+    while 0 < left {
+        let found = position(file, at, next);
+        match found {
+            Reading::Refused(why) => {
+                return ReadAnswer::Refused(why);
+            }
+            Reading::Number(p, after) => {
+                next = p + 1;
+                at = after;
+            }
+        }
+        left -= 1;
+    }
+    if at < file.len() {
+        return ReadAnswer::Refused(ReadRefusal::LeftOver);
+    }
+    ReadAnswer::Count(count as usize)
+}
+
+// Stores the positions of a file that was judged good.
+fn store(file: &[u8], start: usize, count: u32, cells: &mut [u32])
+    requires { ⌜ accepts (readBody count 0 (drop start (now file))) ≡ true ⌝ }
+    requires { ⌜ count ≤ length (now cells) ⌝ }
+    ensures { λ _. ⌜ now (cells .exit) ≡ sets (now (cells .entry)) 0 (positionsOf (readBody count 0 (drop start (now (file .entry))))) ⌝ }
+{
+    let mut at = start;
+    let mut next: u32 = 0;
+    let mut left = count;
+    let mut i: usize = 0;
+    while 0 < left {
+        let found = position(file, at, next);
+        match found {
+            // Never: the first pass found no fault.
+            Reading::Refused(_) => {
+                return;
+            }
+            Reading::Number(p, after) => {
+                cells[i] = p;
+                next = p + 1;
+                at = after;
+            }
+        }
+        i += 1;
+        left -= 1;
+    }
+}
+
+// Reads a file's positions into the front of the cells. The cells behind them stay.
+pub fn read(file: &[u8], cells: &mut [u32]) -> ReadAnswer
+    ensures { λ r. ⌜ Reads (now (file .entry)) (now (cells .entry)) r (now (cells .exit)) ⌝ }
+{
+    let first = number::read(file, 0);
+    match first {
+        Reading::Refused(why) => ReadAnswer::Refused(why),
+        Reading::Number(count, start) => {
+            if cells.len() < count as usize {
+                return ReadAnswer::Refused(ReadRefusal::FewCells);
+            }
+            let judged = judge(file, start, count);
+            match judged {
+                ReadAnswer::Refused(_) => judged,
+                ReadAnswer::Count(_) => {
+                    store(file, start, count, cells);
+                    judged
+                }
+            }
+        }
+    }
+}
