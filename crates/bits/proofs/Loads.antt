@@ -1,17 +1,18 @@
 -- Loads: whole bytes as bits, and a load that begins inside a byte, put together from two that begin at one.
 -- Assumes nothing.
-use mathlib.Core.Path.{_≡_, refl, sym, _∙_, ap, ap₂}
+use mathlib.Core.Path.{_≡_, sym, _∙_, ap, ap₂}
 use mathlib.Core.List.{List}
-use Prim.Native.Nat.{ℕ, zero, suc, _+_, _-_, _*_, _/_, _%_, _^_, _≤_, _<_}
+use Prim.Native.Nat.{ℕ, suc, _+_, _-_, _*_, _/_, _%_, _^_, _≤_, _<_}
 use native.Mathlib.Omega.{arith}
-use native.Mathlib.Nat.{zero-add, mul-one, zero-div, div-add-mod'}
+use native.Mathlib.Nat.{zero-add, mul-one, zero-div, div-one, div-add-mod'}
+use native.Mathlib.Decide.{decLe}
 use lib.ListN.{length, getD, List·getD-eq-default}
 use lib.Dec.{lit<, lit≤}
 use lib.Bits.{bitOr, or-shifted, or-zero-r}
 use lib.Pow.{pow-add, low, shl-lt, shl-exact, mod-mod-pow}
 use Rattle.bits.specs.Packed.{weight, bitAt, bitsAt}
 use Rattle.bits.proofs.Weight.{same-weights}
-use Rattle.bits.proofs.Run.{bits-lt, bits-add, bits-first, weight-of-bits, agree→load}
+use Rattle.bits.proofs.Run.{bits-lt, bits-add, bits-first, bits-last, weight-of-bits, agree→load}
 
 -- bit j of byte b
 pub bit-in-byte : (bytes : List ℕ) (b : ℕ) {j : ℕ} → j < 8 → bitAt bytes (b * 8 + j) ≡ weight (getD bytes b 0) (7 - j)
@@ -136,6 +137,43 @@ byte-load-at bytes p h =
     left =
         mod-mod-pow (getD bytes (p / 8) 0 * 2 ^ (p % 8)) 56 8
         ∙ ap (λ (x : ℕ). (x * 2 ^ (p % 8)) % 2 ^ 8) (sym (byte-bits bytes (p / 8) (h (p / 8))))
+
+-- eight bits from the byte of the first and the byte of the last, which may be the same one
+pub two-bytes-at : (bytes : List ℕ) (p : ℕ) → ((i : ℕ) → getD bytes i 0 < 256)
+    → (getD bytes (p / 8) 0 * 256 + getD bytes ((p + 7) / 8) 0) / 2 ^ (7 - (p + 7) % 8) % 256 ≡ bitsAt bytes p 8
+two-bytes-at bytes p h = go (decLe 1 (p % 8))
+  where
+    b : ℕ
+    b = p / 8
+
+    one : p % 8 ≡ 0 → (getD bytes b 0 * 256 + getD bytes b 0) / 2 ^ 0 % 256 ≡ bitsAt bytes p 8
+    one e =
+        let there : b * 8 ≡ p = omega arith in
+        ap (λ (x : ℕ). x % 256) (div-one (getD bytes b 0 * 256 + getD bytes b 0))
+        ∙ low (getD bytes b 0) 8 (h b)
+        ∙ sym (byte-bits bytes b (h b))
+        ∙ ap (λ (n : ℕ). bitsAt bytes n 8) there
+
+    both : getD bytes b 0 * 256 + getD bytes (b + 1) 0 ≡ bitsAt bytes (b * 8) 16
+    both = ap (λ (x : ℕ). x * 256 + getD bytes (b + 1) 0) (sym (byte-bits bytes b (h b))) ∙ sym (bytes-more bytes b 1 (h (b + 1)))
+
+    two : (getD bytes b 0 * 256 + getD bytes (b + 1) 0) / 2 ^ (16 - (8 + p % 8)) % 256 ≡ bitsAt bytes p 8
+    two =
+        let eight : 8 + p % 8 - p % 8 ≡ 8 = omega arith in
+        ap (λ (x : ℕ). x / 2 ^ (16 - (8 + p % 8)) % 256) both
+        ∙ ap (λ (x : ℕ). x % 256) (bits-first bytes (b * 8) {j = 8 + p % 8} {k = 16} (omega arith))
+        ∙ rw eight at (bits-last bytes (b * 8) {j = p % 8} {k = 8 + p % 8} (omega arith))
+        ∙ ap (λ (n : ℕ). bitsAt bytes n 8) (div-add-mod' p 8)
+
+    go : Dec (1 ≤ p % 8) → (getD bytes (p / 8) 0 * 256 + getD bytes ((p + 7) / 8) 0) / 2 ^ (7 - (p + 7) % 8) % 256 ≡ bitsAt bytes p 8
+    go (yes l) =
+        let last : (p + 7) / 8 ≡ b + 1 = omega arith in
+        let cut : 7 - (p + 7) % 8 ≡ 16 - (8 + p % 8) = omega arith in
+        rw (last, cut) two
+    go (no n) =
+        let last : (p + 7) / 8 ≡ b = omega arith in
+        let cut : 7 - (p + 7) % 8 ≡ 0 = omega arith in
+        rw (last, cut) (one (omega arith))
 
 -- with nothing behind them
 pub load-at-end : (bytes : List ℕ) (p c : ℕ) → 0 < c → length bytes ≤ p / 8 + c

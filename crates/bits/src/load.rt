@@ -1,7 +1,8 @@
 // Loads of several bits, for the matchers. Bits past the last byte read as 0, and nothing outside the lent bytes is read.
+use crate::ByteNo;
 use crate::Place;
 ghost use mathlib.Core.Path.{_≡_};
-ghost use Prim.Native.Nat.{_+_, _-_, _*_, _^_, _≤_};
+ghost use Prim.Native.Nat.{_+_, _-_, _*_, _^_, _≤_, _<_};
 ghost use mathlib.Core.List.{[], _∷_};
 ghost use lib.ListN.{length, getD};
 ghost use Rattle.bits.specs.Packed.{bitsAt};
@@ -42,6 +43,18 @@ pub fn byte_at(bytes: &[u8], p: Place) -> u8
     let left = (byte_or_zero(bytes, b) << r) % 256;
     let right = byte_or_zero(bytes, b + 1) >> (8 - r);
     (left | right) as u8
+}
+
+// The eight bits from p on where they lie inside the bytes, as an index: two loads and no branch.
+pub fn byte_inside(bytes: &[u8], p: Place) -> usize
+    requires { ⌜ (p .0 + 8 ≤ length (now bytes) * 8) × (p .0 + 8 ≤ 2 ^ 32) ⌝ }
+    ensures { λ r. ⌜ r ≡ bitsAt (now (bytes .entry)) (p .0) 8 ⌝ }
+{
+    let first = p.0;
+    let last = first + 7;
+    let left = wide(bytes[(first / 8) as usize]);
+    let right = wide(bytes[(last / 8) as usize]);
+    (((left * 256 + right) >> (7 - last % 8)) % 256) as usize
 }
 
 // Eight whole bytes from byte b on, the first one highest: one machine load and a byte swap.
@@ -85,6 +98,19 @@ pub fn word_at(bytes: &[u8], p: Place) -> u64
         (eight_bytes(bytes, b) << r) | (wide(bytes[b + 8]) >> (8 - r))
     } else {
         last_bytes(bytes, b) << r
+    }
+}
+
+// The 64 bits from byte b on: one machine load but near the end.
+pub fn word_at_byte(bytes: &[u8], b: ByteNo) -> u64
+    requires { ⌜ b .0 < 2 ^ 29 ⌝ }
+    ensures { λ r. ⌜ r ≡ bitsAt (now (bytes .entry)) (b .0 * 8) 64 ⌝ }
+{
+    let at = b.0;
+    if at + 8 <= bytes.len() {
+        eight_bytes(bytes, at)
+    } else {
+        word_at(bytes, b.place())
     }
 }
 

@@ -2,3 +2,9 @@
 pub mod Verdict
 pub mod Calls
 pub mod Examples
+pub mod Tables
+pub mod Progress
+pub mod RowCells
+pub mod Flags
+pub mod HashMoves
+pub mod HashAnswers

@@ -1,8 +1,26 @@
 // Search for a pattern of bits in a packed text, in four ways. The types that a call takes and gives; what they mean is
 // in specs/, and the theorems about every list of calls are in proofs/.
+mod call;
+mod check;
+mod compare;
+pub mod hash_value;
+mod matcher;
+
 use bits::Place;
+use check::Checked;
+use compare::Head;
+use matcher::Step;
+use matcher::hash;
+use matcher::plain;
+use matcher::skip;
+use matcher::wide;
 pub use rules::Method;
 ghost use mathlib.Core.Path.{_≡_};
+ghost use Prim.Native.Nat.{_≤_, _<_};
+ghost use lib.ListN.{length};
+ghost use Rattle.rules.specs.Occurrence.{places};
+ghost use Rattle.search.specs.Verdict.{Searched};
+ghost use Rattle.search.specs.Progress.{textOf, patternOf, HeadOf, Ready, Stepped};
 
 // How far a search has come: the first place that is not yet decided.
 pub struct Mark {
@@ -47,5 +65,65 @@ impl Mark {
         ensures { λ r. ⌜ r .at .0 ≡ 0 ⌝ }
     {
         Mark { at: Place(0) }
+    }
+
+    // Lists the places from the mark on where the pattern of m bits stands in the first n bits of the text, as far as the
+    // budget of steps and the cells of the list go. A refused call changes nothing.
+    pub fn search(
+        self,
+        text: &[u8],
+        n: u64,
+        word: &[u8],
+        m: u64,
+        method: Method,
+        budget: u32,
+        list: &mut [u32],
+        scratch: &mut [u64],
+    ) -> Outcome
+        ensures { λ r. ⌜ Searched (record { text = textOf (now (text .entry)) n; pattern = patternOf (now (word .entry)) m; method = method; mark = self .at .0; budget = budget; list = now (list .entry); scratch = now (scratch .entry) }) r (now (list .exit)) (now (scratch .exit)) ⌝ }
+    {
+        let at = self.at;
+        let checked = check::check(text, n, word, m, method, at, scratch);
+        match checked {
+            Checked::Refused(why) => Outcome::Refused(why),
+            Checked::Passed => Outcome::Accepted(call::accepted(
+                self,
+                method,
+                text,
+                n as u32,
+                word,
+                m as u32,
+                budget,
+                list,
+                scratch,
+            )),
+        }
+    }
+
+    // One step by the method's rule: the advanced mark beside what the step wrote. The tables are made.
+    fn step(
+        self,
+        method: Method,
+        text: &[u8],
+        n: u32,
+        word: &[u8],
+        m: u32,
+        h: Head,
+        cells: &[u64],
+        list: &mut [u32],
+        had: usize,
+    ) -> Step
+        requires { ⌜ Ready method (textOf (now text) n) (patternOf (now word) m) (now cells) ⌝ }
+        requires { ⌜ HeadOf (patternOf (now word) m) (h .bits) (h .cut) ⌝ }
+        requires { ⌜ (self .at .0 < places (textOf (now text) n) (patternOf (now word) m)) × (had ≤ length (now list)) ⌝ }
+        ensures { λ r. ⌜ Stepped method (textOf (now (text .entry)) n) (patternOf (now (word .entry)) m) (self .at .0) (now (list .entry)) had (r .mark .at .0) (r .hits) (r .full) (now (list .exit)) ⌝ }
+    {
+        let s = self.at;
+        match method {
+            Method::Plain => plain::step(text, n, word, m, h, cells, s, list, had),
+            Method::Hash => hash::step(text, n, word, m, h, cells, s, list, had),
+            Method::Skip => skip::step(text, n, word, m, h, cells, s, list, had),
+            Method::Wide => wide::step(text, n, word, m, h, cells, s, list, had),
+        }
     }
 }

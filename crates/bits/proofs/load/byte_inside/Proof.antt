@@ -1,0 +1,79 @@
+-- `bits::load::byte_inside` meets its contract: the law of eight bits from two bytes.
+-- Assumes nothing.
+use borrow.Author.Needs.{needs}
+use Prim.Native.Nat.{_+_, _/_, _<_}
+use native.Mathlib.Omega.{arith}
+use denote.Ref.{now}
+use Rattle.bits.proofs.Loads.{two-bytes-at}
+use Rattle.bits.proofs.load.byte_inside.Statement.{statement}
+use Rattle.bits.proofs.load.byte_inside.Tie as tie
+
+-- both bytes are below 256
+small : (c : tie.After-wide2) → (c .before .before .wide .result < 256) × (c .wide2 .result < 256)
+small c =
+    let s = c .before .before .before .before in
+    let first = s .before .args .p .0 in (
+      rw (c .before .before .wide .ensures) (s .shared-slice-known .given (first / 8) .fits),
+      rw (c .wide2 .ensures) (s .shared-slice-known .given ((first + 7) / 8) .fits),
+    )
+
+add-last : tie.Need-add-last
+add-last c = search needs
+
+cast-wide : tie.Need-cast-wide
+cast-wide c = search needs
+
+shared-slice-read-wide : tie.Need-shared-slice-read-wide
+shared-slice-read-wide c = search needs
+
+wide-requires : tie.Need-wide-requires
+wide-requires c κs = search needs
+
+cast-wide-2 : tie.Need-cast-wide-2
+cast-wide-2 c = search needs
+
+shared-slice-read-wide-2 : tie.Need-shared-slice-read-wide-2
+shared-slice-read-wide-2 c = search needs
+
+wide-requires-2 : tie.Need-wide-requires-2
+wide-requires-2 c κs = search needs
+
+mul-result : tie.Need-mul-result
+mul-result c = omega (arith, small c .0)
+
+add-result : tie.Need-add-result
+add-result c = omega (arith, small c .0, small c .1)
+
+sub-result : tie.Need-sub-result
+sub-result c = search needs
+
+cast-result : tie.Need-cast-result
+cast-result c = search needs
+
+shr-result : tie.Need-shr-result
+shr-result c = search needs
+
+returns : tie.Need-returns
+returns c =
+    let s = c .before .before .before .before in
+    let a = s .before .args in
+    rw (c .before .before .wide .ensures, c .wide2 .ensures)
+    (two-bytes-at (now (a .bytes)) (a .p .0) (λ i. s .shared-slice-known .given i .fits))
+
+pub byte-inside-spec : {M : Type 1} → statement M
+byte-inside-spec =
+    tie.close
+    (tie.spec
+    add-last
+    cast-wide
+    shared-slice-read-wide
+    wide-requires
+    cast-wide-2
+    shared-slice-read-wide-2
+    wide-requires-2
+    mul-result
+    add-result
+    sub-result
+    cast-result
+    shr-result
+    returns)

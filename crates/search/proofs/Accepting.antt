@@ -1,0 +1,99 @@
+-- From the check of a call to what its steps may rely on, and from what its steps leave to the call's promise.
+-- Assumes nothing.
+use mathlib.Core.Path.{_≡_, refl, sym, ap, _∙_}
+use mathlib.Core.Bool.{Bool, true, false, _||_}
+use mathlib.Core.List.{List, [], _∷_, _++_}
+use Prim.Native.Nat.{ℕ, zero, suc, _+_, _-_, _^_, _≤_, _<_}
+use native.Mathlib.Omega.{arith}
+use borrow.Author.Tests.{ltb-false, eqb-false}
+use lib.Dec.{ltb, eqb}
+use lib.ListN.{length, drop}
+use lib.Seq.{drop-drop}
+use Rattle.bits.specs.Packed.{Packed, bytesFor}
+use Rattle.rules.specs.declared.Method.{Method}
+use Rattle.rules.specs.declared.Method.the-variants.{Plain, Hash, Skip, Wide}
+use Rattle.search.specs.declared.Answer.{Answer}
+use Rattle.rules.specs.Pattern.{Pattern}
+use Rattle.rules.specs.Occurrence.{places}
+use Rattle.rules.specs.Step.{unfit}
+use Rattle.rules.specs.Machine.{run, done, stopped}
+use Rattle.search.specs.Verdict.{Request, rows, AllFail, refused, accepted, machine, verdict, scratchCells, Carries}
+use Rattle.search.specs.Tables.{cellsFor, Prepared}
+use Rattle.search.specs.Progress.{GoodPattern, checkVerdict, Allowed, Ran, Tells, Leaves}
+use Rattle.rules.proofs.Occurrence.{occurrences-length}
+use Rattle.rules.proofs.Machine.{run-ended, left}
+use Rattle.search.proofs.Verdict.{judge-accepted, judge-refused, refused-judge}
+
+-- each method's tables fit into the scratch that a call must have
+pub tables-fit : (x : Method) (w : Pattern) → GoodPattern x w → cellsFor x (w .count) ≤ scratchCells
+tables-fit Plain w g = omega (arith, g .few-bits)
+tables-fit Hash w g = omega arith
+tables-fit Skip w g = omega (arith, g .few-bits)
+tables-fit Wide w g = omega (arith, g .few-bits)
+
+neither : (a b : Bool) → (a || b) ≡ false → (a ≡ false) × (b ≡ false)
+neither true b e = let z : _≡_ {A = ℕ} 0 1 = cc in absurd (omega arith)
+neither false b e = (refl, e)
+
+-- a call that no row refuses
+pub allowed : (q : Request) → AllFail (rows q) → Allowed (q .method) (q .text) (q .pattern) (q .mark) (q .scratch)
+unfolding rows
+allowed q (a, (b, (c, (d, (e, (f, (g, h))))))) =
+    let m = neither (eqb (q .pattern .count) 0) (ltb 2048 (q .pattern .count)) c in
+    let some = eqb-false (q .pattern .count) 0 (m .0) in
+    record {
+      few-bits = ltb-false _ _ a;
+      bytes-there = ltb-false _ _ b;
+      pattern = record { some-bits = omega (arith, some); few-bits = ltb-false _ _ (m .1); bytes-there = ltb-false _ _ d; fit = e };
+      inside = ltb-false _ _ f;
+      room = ltb-false _ _ g;
+    }
+
+-- the places that a call writes are few
+pub few-hits : (x : Method) (t : Packed) (w : Pattern) (s budget : ℕ) (before : List ℕ) (at steps hits : ℕ) (cut : Bool) (list : List ℕ)
+    → unfit x (w .count) ≡ false → s ≤ places t w → t .count ≤ 2 ^ 30 → 0 < w .count → Ran x t w s budget before at steps hits cut list → hits ≤ 2 ^ 30
+few-hits x t w s budget before at steps hits cut list fit h n m r =
+    let l = left x t w fit budget s (length before) h in
+    omega (arith, r .hits-are, ap length (l .written-are), occurrences-length t w s (run x t w budget s (length before) .mark), l .high)
+
+module _ (x : Method) (t : Packed) (w : Pattern) (s budget : ℕ) (before cells : List ℕ) where
+  -- no place to search
+  pub leaves-none : (a : Answer) → places t w ≤ s → Carries a (stopped (places t w) s) → Leaves x t w s budget before cells a before cells
+  unfolding stopped
+  leaves-none a h k =
+      let is = run-ended x t w s (length before) budget h in
+      record {
+        answer = rw is k;
+        list-is = rw is refl;
+        scratch-length = refl;
+        scratch-rest = refl;
+      }
+
+  -- the steps are made
+  pub leaves-run : (a : Answer) (at steps hits : ℕ) (cut : Bool) (list scratch : List ℕ) → Ran x t w s budget before at steps hits cut list
+      → Tells a at steps hits cut (places t w) → cellsFor x (w .count) ≤ scratchCells → Prepared x w cells scratch
+      → Leaves x t w s budget before cells a list scratch
+  leaves-run a at steps hits cut list scratch r k fits p =
+      let k0 = cellsFor x (w .count) in
+      let whole : scratchCells ≡ k0 + (scratchCells - k0) = omega arith in
+      record {
+        answer = record { steps = k .steps-are ∙ r .steps-are; hits = k .hits-are ∙ r .hits-are; mark = k .mark-is ∙ r .mark-is; ending = k .ending-is ∙ r .ending-is };
+        list-is = r .list-is;
+        scratch-length = p .size;
+        scratch-rest =
+            ap (λ (n : ℕ). drop n scratch) whole
+            ∙ sym (drop-drop (scratchCells - k0) k0 scratch)
+            ∙ ap (drop (scratchCells - k0)) (p .behind)
+            ∙ drop-drop (scratchCells - k0) k0 cells
+            ∙ ap (λ (n : ℕ). drop n cells) (sym whole);
+      }
+
+-- what the check said, of the whole request
+module _ (q : Request) where
+  pub passed : accepted tt ≡ checkVerdict (q .text) (q .pattern) (q .method) (q .mark) (q .scratch) → AllFail (rows q)
+  unfolding checkVerdict rows
+  passed e = judge-accepted tt (rows q) tt (sym e) .0
+
+  pub not-passed : (k : ℕ) → refused k ≡ checkVerdict (q .text) (q .pattern) (q .method) (q .mark) (q .scratch) → verdict q ≡ refused k
+  unfolding checkVerdict rows verdict
+  not-passed k e = refused-judge (machine q) (rows q) k (judge-refused tt (rows q) k (sym e))

@@ -1,0 +1,83 @@
+-- `search::hash_value::hash_of` meets its contract. The loop's invariant: no move below d meets the condition.
+-- Assumes nothing.
+use borrow.Author.Needs.{needs}
+use mathlib.Core.Path.{sym, _∙_}
+use Prim.Native.Nat.{_+_, _-_, _≤_}
+use native.Mathlib.Omega.{arith}
+use denote.Ref.{now}
+use Rattle.search.specs.Progress.{patternOf}
+use Rattle.search.proofs.HashSteps.{long-enough}
+use Rattle.search.proofs.HashValues.{NoneBelow, none-more, hash-is, shown-whole}
+use Rattle.search.proofs.hash_value.hash_of.Statement.{statement}
+use Rattle.search.proofs.hash_value.hash_of.Tie as tie
+
+abbrev Inv-loop : tie.InvT-loop
+Inv-loop word m value d₀ d = (d + 7 ≤ m) × NoneBelow (patternOf word m) value d
+
+abbrev μ-loop : tie.MeasureT-loop
+μ-loop word m value d₀ d = m - d
+
+loop-holds : tie.Need-loop-holds Inv-loop μ-loop
+loop-holds c = (omega (arith, long-enough _ (c .before .pre)), λ e h. absurd (omega arith))
+
+add-loop : tie.Need-add-loop Inv-loop μ-loop
+add-loop c = search needs
+
+sub-t5 : tie.Need-sub-t5 Inv-loop μ-loop
+sub-t5 c = search needs
+
+sub-t8 : tie.Need-sub-t8 Inv-loop μ-loop
+sub-t8 c = search needs
+
+byte-at-requires : tie.Need-byte-at-requires Inv-loop μ-loop
+byte-at-requires c κs = search needs
+
+returns : tie.Need-returns Inv-loop μ-loop
+returns c =
+    let s = c .before .before .before .before .before in
+    let a = s .args in
+    let l = c .before .before .before .loop in
+    hash-is (patternOf (now (a .word)) (a .m)) (a .value) (l .d) (l .inv .1)
+    (shown-whole (patternOf (now (a .word)) (a .m)) (a .value) (l .d) (c .before .before .loop-test .taken) (s .fits .value .fits) .1
+    (sym (c .if1 .taken) ∙ c .before .byte-at .ensures))
+
+add-d : tie.Need-add-d Inv-loop μ-loop
+add-d c = search needs
+
+loop-less : tie.Need-loop-less Inv-loop μ-loop
+loop-less c = search needs
+
+loop-again : tie.Need-loop-again Inv-loop μ-loop
+loop-again c =
+    let s = c .before .before .before .before .before in
+    let a = s .args in
+    let l = c .before .before .before .loop in (
+      omega arith,
+      none-more (patternOf (now (a .word)) (a .m)) (a .value) (l .d) (l .inv .1)
+          (λ e. c .if1 .left (c .before .byte-at .ensures
+          ∙ sym (shown-whole (patternOf (now (a .word)) (a .m)) (a .value) (l .d) (c .before .before .loop-test .taken) (s .fits .value .fits) .0 e))),
+    )
+
+hash-by-first-bits-requires : tie.Need-hash-by-first-bits-requires Inv-loop μ-loop
+hash-by-first-bits-requires c κs = (c .before .before .before .pre, λ e h. c .before .loop .inv .1 e (omega arith))
+
+returns-2 : tie.Need-returns-2 Inv-loop μ-loop
+returns-2 c = search needs
+
+pub hash-of-spec : {M : Type 1} → statement M
+hash-of-spec =
+    tie.close
+    (tie.spec
+    Inv-loop
+    μ-loop
+    loop-holds
+    add-loop
+    sub-t5
+    sub-t8
+    byte-at-requires
+    returns
+    add-d
+    loop-less
+    loop-again
+    hash-by-first-bits-requires
+    returns-2)

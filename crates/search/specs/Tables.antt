@@ -1,0 +1,66 @@
+-- What each method's tables hold, in the first cells of the scratch, and how many cells they take.
+use Prim.Native.Nat.{ℕ, zero, suc, _+_, _-_, _*_, _/_, _%_, _<_}
+use mathlib.Core.Path.{_≡_}
+use mathlib.Core.Bool.{Bool, _&&_, cond}
+use mathlib.Core.List.{List}
+use lib.Dec.{leb, ltb, eqb}
+use lib.ListN.{length, getD, drop}
+use Rattle.bits.specs.Packed.{bytesFor, bitsAt, bitOf, weight}
+use Rattle.rules.specs.declared.Method.{Method}
+use Rattle.rules.specs.declared.Method.the-variants.{Plain, Hash, Skip, Wide}
+use Rattle.rules.specs.Ranges.{implies}
+use Rattle.rules.specs.Pattern.{Pattern, agrees}
+use Rattle.rules.specs.Plain.{rowBit, maskBit}
+use Rattle.rules.specs.Hash.{hashAgain}
+
+-- plain: how many cells of eight row bytes the longest row takes
+abbrev pub rowChunks : ℕ → ℕ
+rowChunks m = (m + 70) / 64
+
+-- plain: cell 16 k + i holds the bytes 8 k to 8 k + 7 of row i, and cell 16 k + 8 + i those of its mask, the first byte highest
+pub record PlainTables (w : Pattern) (cells : List ℕ) : Type 0 where
+  pub row-is : (i k j : ℕ) → i < 8 → k < rowChunks (w .count) → j < 64
+      → bitOf 64 (getD cells (16 * k + i) 0) j ≡ rowBit w i (8 * k + j / 8) (j % 8)
+  pub mask-is : (i k j : ℕ) → i < 8 → k < rowChunks (w .count) → j < 64
+      → bitOf 64 (getD cells (16 * k + 8 + i) 0) j ≡ maskBit w i (8 * k + j / 8) (j % 8)
+
+-- hash: in cell B the least d in 1..m that meets the condition for B. Where H(B) is not 0 this is H(B), else the move behind.
+pub record HashTables (w : Pattern) (cells : List ℕ) : Type 0 where
+  pub move-is : (B : ℕ) → B < 256 → getD cells B 0 ≡ hashAgain w B
+
+-- one more than the greatest index below k from which the pattern shows the byte B, or 0
+unfoldable pub lastShown : Pattern → ℕ → ℕ → ℕ
+lastShown w B zero = 0
+lastShown w B (suc k) = cond (eqb (bitsAt (w .bytes) k 8) B) (suc k) (lastShown w B k)
+
+-- skip: in cell B the head of the chain of the indices that show B, highest first; in cell 256 + j the index after j
+pub record SkipTables (w : Pattern) (cells : List ℕ) : Type 0 where
+  pub head-is : (B : ℕ) → B < 256 → getD cells B 0 ≡ lastShown w B (w .count - 7)
+  pub link-is : (j : ℕ) → j < w .count - 7 → getD cells (256 + j) 0 ≡ lastShown w (bitsAt (w .bytes) j 8) j
+
+-- the window bit q, being c, leaves flag i standing: q − i is no index of the pattern, or its bit there is c
+unfoldable pub passes : Pattern → ℕ → ℕ → ℕ → Bool
+passes w c q i = implies (leb i q && ltb (q - i) (w .count)) (agrees w (q - i) c)
+
+-- wide: in cell 2 q + c the flags that window bit q leaves standing if it is c
+pub record WideTables (w : Pattern) (cells : List ℕ) : Type 0 where
+  pub flags-are : (q c i : ℕ) → q < 63 + w .count → c < 2 → i < 64 → weight (getD cells (2 * q + c) 0) i ≡ cond (passes w c q i) 1 0
+
+abbrev pub Tables : Method → Pattern → List ℕ → Type 0
+Tables Plain w cells = PlainTables w cells
+Tables Hash w cells = HashTables w cells
+Tables Skip w cells = SkipTables w cells
+Tables Wide w cells = WideTables w cells
+
+-- the cells that a method's tables take
+abbrev pub cellsFor : Method → ℕ → ℕ
+cellsFor Plain m = 16 * bytesFor (m + 7)
+cellsFor Hash m = 256
+cellsFor Skip m = 256 + m
+cellsFor Wide m = 2 * (63 + m)
+
+-- the tables are made, and the cells behind them are as they were
+pub record Prepared (x : Method) (w : Pattern) (before cells : List ℕ) : Type 0 where
+  pub tables : Tables x w cells
+  pub size : length cells ≡ length before
+  pub behind : drop (cellsFor x (w .count)) cells ≡ drop (cellsFor x (w .count)) before

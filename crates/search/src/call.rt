@@ -1,0 +1,131 @@
+// All steps of a call: the loop over the methods' steps.
+use crate::Answer;
+use crate::Mark;
+use crate::Method;
+use crate::Stop;
+use crate::compare;
+use crate::compare::Head;
+use crate::matcher;
+use bits::Place;
+ghost use Prim.Native.Nat.{_^_, _≤_};
+ghost use Rattle.rules.specs.Occurrence.{places};
+ghost use Rattle.search.specs.Progress.{textOf, patternOf, HeadOf, Ready, Ran, Allowed, Leaves, Tells};
+
+// What the steps of a call leave: the mark, the steps made, the places written, and whether a place found no cell.
+pub struct Left {
+    pub mark: Mark,
+    pub steps: u32,
+    pub hits: usize,
+    pub full: bool,
+}
+
+// Steps from the mark until the places, the budget or the cells of the list are at an end. The tables are made.
+pub fn run(
+    mark: Mark,
+    method: Method,
+    text: &[u8],
+    n: u32,
+    word: &[u8],
+    m: u32,
+    h: Head,
+    cells: &[u64],
+    budget: u32,
+    list: &mut [u32],
+) -> Left
+    requires { ⌜ Ready method (textOf (now text) n) (patternOf (now word) m) (now cells) ⌝ }
+    requires { ⌜ HeadOf (patternOf (now word) m) (h .bits) (h .cut) ⌝ }
+    requires { ⌜ mark .at .0 ≤ places (textOf (now text) n) (patternOf (now word) m) ⌝ }
+    ensures { λ r. ⌜ Ran method (textOf (now (text .entry)) n) (patternOf (now (word .entry)) m) (mark .at .0) budget (now (list .entry)) (r .mark .at .0) (r .steps) (r .hits) (r .full) (now (list .exit)) ⌝ }
+{
+    let end = n - m + 1;
+    let from = mark.at;
+    let mut at = from.0;
+    let mut steps = 0u32;
+    let mut hits = 0usize;
+    while at < end && steps < budget {
+        let one = Mark { at: Place(at) }.step(method, text, n, word, m, h, cells, list, hits);
+        let moved = one.mark;
+        hits = one.hits;
+        steps += 1;
+        if one.full {
+            return Left {
+                mark: moved,
+                steps: steps,
+                hits: hits,
+                full: true,
+            };
+        }
+        let next = moved.at;
+        let hop = matcher::quiet(method, text, n, word, m, h, cells, next, budget - steps);
+        let there = hop.at;
+        at = there.0;
+        steps += hop.steps;
+    }
+    Left {
+        mark: Mark { at: Place(at) },
+        steps: steps,
+        hits: hits,
+        full: false,
+    }
+}
+
+// The answer by what the steps left.
+fn answer(left: Left, end: u32) -> Answer
+    requires { ⌜ left .hits ≤ 2 ^ 30 ⌝ }
+    ensures { λ r. ⌜ Tells r (left .mark .at .0) (left .steps) (left .hits) (left .full) end ⌝ }
+{
+    let mark = left.mark;
+    let at = mark.at;
+    let hits = left.hits as u32;
+    if left.full {
+        return Answer {
+            steps: left.steps,
+            hits: hits,
+            mark: mark,
+            stop: Stop::Full(at),
+        };
+    }
+    if at.0 == end {
+        return Answer {
+            steps: left.steps,
+            hits: hits,
+            mark: mark,
+            stop: Stop::Done,
+        };
+    }
+    Answer {
+        steps: left.steps,
+        hits: hits,
+        mark: mark,
+        stop: Stop::Spent,
+    }
+}
+
+// A call that has passed the check.
+pub fn accepted(
+    mark: Mark,
+    method: Method,
+    text: &[u8],
+    n: u32,
+    word: &[u8],
+    m: u32,
+    budget: u32,
+    list: &mut [u32],
+    scratch: &mut [u64],
+) -> Answer
+    requires { ⌜ Allowed method (textOf (now text) n) (patternOf (now word) m) (mark .at .0) (now scratch) ⌝ }
+    ensures { λ r. ⌜ Leaves method (textOf (now (text .entry)) n) (patternOf (now (word .entry)) m) (mark .at .0) budget (now (list .entry)) (now (scratch .entry)) r (now (list .exit)) (now (scratch .exit)) ⌝ }
+{
+    if n < m {
+        return Answer {
+            steps: 0,
+            hits: 0,
+            mark: mark,
+            stop: Stop::Done,
+        };
+    }
+    matcher::prepare(method, word, m, scratch);
+    let h = compare::head_of(word, m);
+    let left = run(mark, method, text, n, word, m, h, scratch, budget, list);
+    answer(left, n - m + 1)
+}
