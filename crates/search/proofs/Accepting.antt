@@ -18,8 +18,9 @@ use Rattle.rules.specs.Occurrence.{places}
 use Rattle.rules.specs.Step.{unfit}
 use Rattle.rules.specs.Machine.{run, done, stopped}
 use Rattle.search.specs.Verdict.{Request, rows, AllFail, refused, accepted, machine, verdict, scratchCells, Carries}
-use Rattle.search.specs.Tables.{cellsFor, Prepared}
-use Rattle.search.specs.Progress.{GoodPattern, checkVerdict, Allowed, Ran, Tells, Leaves}
+use Rattle.matcher.specs.Tables.{cellsFor, Prepared}
+use Rattle.matcher.specs.Progress.{GoodPattern}
+use Rattle.search.specs.Parts.{checkVerdict, Allowed, Ran, Tells, Leaves}
 use Rattle.rules.proofs.Occurrence.{occurrences-length}
 use Rattle.rules.proofs.Machine.{run-ended, left}
 use Rattle.search.proofs.Verdict.{judge-accepted, judge-refused, refused-judge}

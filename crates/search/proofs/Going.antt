@@ -17,10 +17,11 @@ use Rattle.rules.specs.Pattern.{Pattern}
 use Rattle.rules.specs.Occurrence.{places}
 use Rattle.rules.specs.Step.{finds, next}
 use Rattle.rules.specs.Machine.{full, Run, run, after, stopped, cut}
-use Rattle.search.specs.Progress.{Reaches, Quiet, Stepped, Ran, endingAt}
+use Rattle.matcher.specs.Progress.{Reaches, Quiet, Stepped}
+use Rattle.search.specs.Parts.{Ran, endingAt}
 use Rattle.rules.proofs.Step.{next-le}
-use Rattle.search.proofs.Progress.{reaches-none, reaches-step, reaches-join, run-to-budget, run-to-end, run-to-cut}
-use Rattle.search.proofs.Writing.{Writing, writing-none, writing-length}
+use Rattle.matcher.proofs.Progress.{reaches-none, reaches-step, reaches-join, run-to-budget, run-to-end, run-to-cut}
+use Rattle.matcher.proofs.Writing.{Writing, writing-none, writing-length}
 
 sets-append : (l : List ℕ) (i : ℕ) (us vs : List ℕ) → sets l i (us ++ vs) ≡ sets (sets l i us) (i + length us) vs
 sets-append l i [] vs = rw (add-zero i)

@@ -1,26 +1,8 @@
--- The laws of the definitions and the theorems about them; the files have the names of those in specs/.
+-- The laws of the definitions and the theorems about them; the first files have the names of those in specs/.
 pub mod Verdict
 pub mod Answers
 pub mod Calls
 pub mod Padding
 pub mod Examples
-pub mod Chunks
-pub mod Progress
-pub mod Writing
 pub mod Going
 pub mod Accepting
-pub mod Between
-pub mod Shifts
-pub mod RowCells
-pub mod RowsMade
-pub mod PlainSteps
-pub mod Shifted
-pub mod HashSteps
-pub mod HashTables
-pub mod HashValues
-pub mod SkipChain
-pub mod SkipFilling
-pub mod SkipStep
-pub mod WideTables
-pub mod WideMoves
-pub mod WideFlags

@@ -1,10 +1,7 @@
--- What a call answers, and what is claimed of every list of calls: a reader believes these definitions.
+-- What a call answers, and what is claimed of every list of calls: a reader believes these definitions. `Parts` is what the
+-- parts of the call promise each other.
 pub mod Verdict
 pub mod Calls
 pub mod Examples
-pub mod Tables
-pub mod Progress
-pub mod RowCells
-pub mod Flags
-pub mod HashMoves
+pub mod Parts
 pub mod HashAnswers

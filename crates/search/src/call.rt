@@ -3,13 +3,15 @@ use crate::Answer;
 use crate::Mark;
 use crate::Method;
 use crate::Stop;
-use crate::compare;
-use crate::compare::Head;
-use crate::matcher;
+use crate::method;
 use bits::Place;
+use matcher::Hop;
+use matcher::compare;
+use matcher::compare::Head;
 ghost use Prim.Native.Nat.{_^_, _≤_};
 ghost use Rattle.rules.specs.Occurrence.{places};
-ghost use Rattle.search.specs.Progress.{textOf, patternOf, HeadOf, Ready, Ran, Allowed, Leaves, Tells};
+ghost use Rattle.matcher.specs.Progress.{textOf, patternOf, HeadOf, Ready, Quiet};
+ghost use Rattle.search.specs.Parts.{Ran, Allowed, Leaves, Tells};
 
 // What the steps of a call leave: the mark, the steps made, the places written, and whether a place found no cell.
 pub struct Left {
@@ -17,6 +19,31 @@ pub struct Left {
     pub steps: u32,
     pub hits: usize,
     pub full: bool,
+}
+
+// Passes over the steps that find nothing, unless the step before found something: where occurrences are dense the next
+// step is likely to find one too, and would be looked at twice.
+fn pass_over(
+    found: bool,
+    method: Method,
+    text: &[u8],
+    n: u32,
+    word: &[u8],
+    m: u32,
+    h: Head,
+    cells: &[u64],
+    s: Place,
+    budget: u32,
+) -> Hop
+    requires { ⌜ Ready method (textOf (now text) n) (patternOf (now word) m) (now cells) ⌝ }
+    requires { ⌜ HeadOf (patternOf (now word) m) (h .bits) (h .cut) ⌝ }
+    requires { ⌜ s .0 ≤ places (textOf (now text) n) (patternOf (now word) m) ⌝ }
+    ensures { λ r. ⌜ Quiet method (textOf (now (text .entry)) n) (patternOf (now (word .entry)) m) (s .0) budget (r .at .0) (r .steps) ⌝ }
+{
+    if found {
+        return Hop { at: s, steps: 0 };
+    }
+    method::quiet(method, text, n, word, m, h, cells, s, budget)
 }
 
 // Steps from the mark until the places, the budget or the cells of the list are at an end. The tables are made.
@@ -43,6 +70,7 @@ pub fn run(
     let mut steps = 0u32;
     let mut hits = 0usize;
     while at < end && steps < budget {
+        let had = hits;
         let one = Mark { at: Place(at) }.step(method, text, n, word, m, h, cells, list, hits);
         let moved = one.mark;
         hits = one.hits;
@@ -56,7 +84,18 @@ pub fn run(
             };
         }
         let next = moved.at;
-        let hop = matcher::quiet(method, text, n, word, m, h, cells, next, budget - steps);
+        let hop = pass_over(
+            had < hits,
+            method,
+            text,
+            n,
+            word,
+            m,
+            h,
+            cells,
+            next,
+            budget - steps,
+        );
         let there = hop.at;
         at = there.0;
         steps += hop.steps;
@@ -124,7 +163,7 @@ pub fn accepted(
             stop: Stop::Done,
         };
     }
-    matcher::prepare(method, word, m, scratch);
+    method::prepare(method, word, m, scratch);
     let h = compare::head_of(word, m);
     let left = run(mark, method, text, n, word, m, h, scratch, budget, list);
     answer(left, n - m + 1)

@@ -5,7 +5,8 @@ use bits::Place;
 ghost use mathlib.Core.Path.{_≡_};
 ghost use Prim.Native.Nat.{_+_, _-_, _^_, _≤_};
 ghost use Rattle.rules.specs.Step.{unfit};
-ghost use Rattle.search.specs.Progress.{textOf, patternOf, checkOf, checkVerdict};
+ghost use Rattle.matcher.specs.Progress.{textOf, patternOf};
+ghost use Rattle.search.specs.Parts.{checkOf, checkVerdict};
 
 // Whether a call is refused.
 pub enum Checked {

@@ -9,7 +9,7 @@ ghost use Prim.Native.Nat.{ℕ, _-_, _<_};
 ghost use Rattle.rules.specs.Hash.{meets, hashOf};
 ghost use Rattle.search.specs.Verdict.{hashVerdict};
 ghost use Rattle.search.specs.HashAnswers.{hashAnswer};
-ghost use Rattle.search.specs.Progress.{patternOf, GoodPattern};
+ghost use Rattle.matcher.specs.Progress.{patternOf, GoodPattern};
 
 pub enum HashAnswer {
     Value(u32),

@@ -2,25 +2,19 @@
 // in specs/, and the theorems about every list of calls are in proofs/.
 mod call;
 mod check;
-mod compare;
 pub mod hash_value;
-mod matcher;
+mod method;
 
 use bits::Place;
 use check::Checked;
-use compare::Head;
-use matcher::Step;
-use matcher::hash;
-use matcher::plain;
-use matcher::skip;
-use matcher::wide;
+use matcher::compare::Head;
 pub use rules::Method;
 ghost use mathlib.Core.Path.{_≡_};
 ghost use Prim.Native.Nat.{_≤_, _<_};
 ghost use lib.ListN.{length};
 ghost use Rattle.rules.specs.Occurrence.{places};
 ghost use Rattle.search.specs.Verdict.{Searched};
-ghost use Rattle.search.specs.Progress.{textOf, patternOf, HeadOf, Ready, Stepped};
+ghost use Rattle.matcher.specs.Progress.{textOf, patternOf, HeadOf, Ready, Stepped};
 
 // How far a search has come: the first place that is not yet decided.
 pub struct Mark {
@@ -57,6 +51,14 @@ pub enum Refusal {
 pub enum Outcome {
     Accepted(Answer),
     Refused(Refusal),
+}
+
+// What one step leaves: the advanced mark, and beside it how many cells of the list are written and whether a place
+// found none.
+pub struct Step {
+    pub mark: Mark,
+    pub hits: usize,
+    pub full: bool,
 }
 
 impl Mark {
@@ -119,11 +121,12 @@ impl Mark {
         ensures { λ r. ⌜ Stepped method (textOf (now (text .entry)) n) (patternOf (now (word .entry)) m) (self .at .0) (now (list .entry)) had (r .mark .at .0) (r .hits) (r .full) (now (list .exit)) ⌝ }
     {
         let s = self.at;
-        match method {
-            Method::Plain => plain::step(text, n, word, m, h, cells, s, list, had),
-            Method::Hash => hash::step(text, n, word, m, h, cells, s, list, had),
-            Method::Skip => skip::step(text, n, word, m, h, cells, s, list, had),
-            Method::Wide => wide::step(text, n, word, m, h, cells, s, list, had),
+        let found = method::step(method, text, n, word, m, h, cells, s, list, had);
+        let at = found.at;
+        Step {
+            mark: Mark { at: at },
+            hits: found.hits,
+            full: found.full,
         }
     }
 }

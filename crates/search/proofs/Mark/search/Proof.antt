@@ -5,7 +5,8 @@ use Prim.Native.Nat.{ℕ, _+_, _-_, _≤_, _<_}
 use native.Mathlib.Omega.{arith}
 use denote.Ref.{now}
 use Rattle.search.specs.Verdict.{Request, machine}
-use Rattle.search.specs.Progress.{textOf, patternOf, checkOf}
+use Rattle.matcher.specs.Progress.{textOf, patternOf}
+use Rattle.search.specs.Parts.{checkOf}
 use Rattle.search.proofs.Verdict.{accepted-iff}
 use Rattle.search.proofs.Accepting.{allowed, passed, not-passed}
 use borrow.Author.Needs.{needs}

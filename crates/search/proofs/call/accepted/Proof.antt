@@ -9,7 +9,8 @@ use lib.Dec.{eqb}
 use borrow.Author.Tests.{eq-eqb}
 use Rattle.rules.specs.Occurrence.{places}
 use Rattle.rules.specs.Machine.{stopped}
-use Rattle.search.specs.Progress.{textOf, patternOf, Tells}
+use Rattle.matcher.specs.Progress.{textOf, patternOf}
+use Rattle.search.specs.Parts.{Tells}
 use Rattle.search.proofs.Accepting.{tables-fit, few-hits, leaves-none, leaves-run}
 use borrow.Author.Needs.{needs}
 use Rattle.search.proofs.call.accepted.Statement.{statement}

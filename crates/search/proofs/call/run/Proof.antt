@@ -5,9 +5,9 @@ use Prim.Native.Nat.{ℕ, _+_, _-_, _≤_, _<_}
 use native.Mathlib.Omega.{arith}
 use borrow.Author.Tests.{ltb-true, ltb-false}
 use denote.Ref.{now}
-use Rattle.search.specs.Progress.{textOf, patternOf}
+use Rattle.matcher.specs.Progress.{textOf, patternOf}
 use Rattle.rules.proofs.Step.{next-le}
-use Rattle.search.proofs.Writing.{writing-length}
+use Rattle.matcher.proofs.Writing.{writing-length}
 use Rattle.search.proofs.Going.{Going, going-start, whole-step, going-on, going-ends, going-full}
 use Rattle.search.proofs.call.run.Statement.{statement}
 use Rattle.search.proofs.call.run.Tie as tie
@@ -67,11 +67,11 @@ returns c =
     (omega (arith, c .before .before .before .before .before .before .before .loop-test .taken, s .pre .0 .inside)) (ltb-true _ _ (c .before .before .before .before .before .before .if1 .taken))
     (rw (c .if2 .taken) at (c .before .before .before .before .step .ensures))
 
-sub-quiet : tie.Need-sub-quiet Inv-loop μ-loop
-sub-quiet c = omega (arith, ltb-true (c .before .before .before .before .before .before .before .before .before .loop .steps) (c .before .before .before .before .before .before .before .before .before .before .before .before .before .before .before .args .budget) (c .before .before .before .before .before .before .before .if1 .taken))
+sub-pass-over : tie.Need-sub-pass-over Inv-loop μ-loop
+sub-pass-over c = omega (arith, ltb-true (c .before .before .before .before .before .before .before .before .before .loop .steps) (c .before .before .before .before .before .before .before .before .before .before .before .before .before .before .before .args .budget) (c .before .before .before .before .before .before .before .if1 .taken))
 
-quiet-requires : tie.Need-quiet-requires Inv-loop μ-loop
-quiet-requires c κs =
+pass-over-requires : tie.Need-pass-over-requires Inv-loop μ-loop
+pass-over-requires c κs =
     let s = c .before .before .before .before .before .before .before .before .before .before .before .before .before .before .before in
     let a = s .args in
     let text = textOf (now (a .text)) (a .n) in
@@ -84,11 +84,11 @@ quiet-requires c κs =
 
 add-steps-2 : tie.Need-add-steps-2 Inv-loop μ-loop
 add-steps-2 c =
-    omega (arith, ltb-true (c .before .before .before .before .before .before .before .before .before .before .before .before .loop .steps) (c .before .before .before .before .before .before .before .before .before .before .before .before .before .before .before .before .before .before .args .budget) (c .before .before .before .before .before .before .before .before .before .before .if1 .taken), c .before .before .before .before .before .before .before .before .before .before .before .before .before .before .before .before .before .before .fits .budget, c .before .before .quiet .ensures .within)
+    omega (arith, ltb-true (c .before .before .before .before .before .before .before .before .before .before .before .before .loop .steps) (c .before .before .before .before .before .before .before .before .before .before .before .before .before .before .before .before .before .before .args .budget) (c .before .before .before .before .before .before .before .before .before .before .if1 .taken), c .before .before .before .before .before .before .before .before .before .before .before .before .before .before .before .before .before .before .fits .budget, c .before .before .pass-over .ensures .within)
 
 loop-less : tie.Need-loop-less Inv-loop μ-loop
 loop-less c =
-    omega (arith, ltb-true (c .before .before .before .before .before .before .before .before .before .before .before .before .loop .steps) (c .before .before .before .before .before .before .before .before .before .before .before .before .before .before .before .before .before .before .args .budget) (c .before .before .before .before .before .before .before .before .before .before .if1 .taken), c .before .before .quiet .ensures .within)
+    omega (arith, ltb-true (c .before .before .before .before .before .before .before .before .before .before .before .before .loop .steps) (c .before .before .before .before .before .before .before .before .before .before .before .before .before .before .before .before .before .before .args .budget) (c .before .before .before .before .before .before .before .before .before .before .if1 .taken), c .before .before .pass-over .ensures .within)
 
 loop-again : tie.Need-loop-again Inv-loop μ-loop
 loop-again c =
@@ -99,7 +99,7 @@ loop-again c =
     let l = c .before .before .before .before .before .before .before .before .before .before .before .before .loop in
     going-on (a .method) text word (a .mark .at .0) (a .budget) (now (a .list)) (l .list) (c .before .before .before .before .before .before .before .before .step .last .1 .1 .1 .1 .1 .1 .1 .1 .0) (l .at) (l .steps) (l .hits) _ _ _ _ (l .inv)
     (omega (arith, c .before .before .before .before .before .before .before .before .before .before .before .loop-test .taken, s .pre .0 .inside)) (ltb-true _ _ (c .before .before .before .before .before .before .before .before .before .before .if1 .taken))
-    (rw (c .before .before .before .before .if2 .left) at (c .before .before .before .before .before .before .before .before .step .ensures)) (c .before .before .quiet .ensures)
+    (rw (c .before .before .before .before .if2 .left) at (c .before .before .before .before .before .before .before .before .step .ensures)) (c .before .before .pass-over .ensures)
 
 same-length-2 : tie.Need-same-length-2 Inv-loop μ-loop
 same-length-2 c =
@@ -144,8 +144,8 @@ run-spec =
     add-steps
     same-length
     returns
-    sub-quiet
-    quiet-requires
+    sub-pass-over
+    pass-over-requires
     add-steps-2
     loop-less
     loop-again

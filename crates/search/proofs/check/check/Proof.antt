@@ -3,7 +3,7 @@
 use mathlib.Core.Path.{sym, _∙_}
 use borrow.Author.Tests.{lt-ltb, le-ltb, eq-eqb, ne-eqb}
 use Rattle.search.specs.Verdict.{rows, judge}
-use Rattle.search.specs.Progress.{checkVerdict}
+use Rattle.search.specs.Parts.{checkVerdict}
 use borrow.Author.Needs.{needs}
 use Rattle.search.proofs.check.check.Statement.{statement}
 use Rattle.search.proofs.check.check.Tie as tie

@@ -9,9 +9,9 @@ use native.Mathlib.Omega.{arith}
 use denote.Ref.{now}
 use lib.Pow.{pow-pos}
 use Rattle.rules.specs.Hash.{meets}
-use Rattle.search.specs.Progress.{patternOf}
-use Rattle.search.proofs.HashSteps.{long-enough}
-use Rattle.search.proofs.HashValues.{NoneBelow, none-more, hash-is, hash-last, one-shl, shown-first}
+use Rattle.matcher.specs.Progress.{patternOf}
+use Rattle.hash.proofs.HashSteps.{long-enough}
+use Rattle.hash.proofs.HashValues.{NoneBelow, none-more, hash-is, hash-last, one-shl, shown-first}
 use Rattle.search.proofs.hash_value.hash_by_first_bits.Statement.{statement}
 use Rattle.search.proofs.hash_value.hash_by_first_bits.Tie as tie
 

@@ -5,9 +5,9 @@ use mathlib.Core.Path.{sym, _∙_}
 use Prim.Native.Nat.{_+_, _-_, _≤_}
 use native.Mathlib.Omega.{arith}
 use denote.Ref.{now}
-use Rattle.search.specs.Progress.{patternOf}
-use Rattle.search.proofs.HashSteps.{long-enough}
-use Rattle.search.proofs.HashValues.{NoneBelow, none-more, hash-is, shown-whole}
+use Rattle.matcher.specs.Progress.{patternOf}
+use Rattle.hash.proofs.HashSteps.{long-enough}
+use Rattle.hash.proofs.HashValues.{NoneBelow, none-more, hash-is, shown-whole}
 use Rattle.search.proofs.hash_value.hash_of.Statement.{statement}
 use Rattle.search.proofs.hash_value.hash_of.Tie as tie
 

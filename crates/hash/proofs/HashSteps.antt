@@ -1,0 +1,151 @@
+-- A step of the hash method by its table: it moves by the cell of its eight bits, and finds its place just where the
+-- pattern stands.
+-- Assumes nothing.
+use Prim.Native.Nat.{ℕ, _+_, _-_, _*_, _^_, _≤_, _<_, min}
+use mathlib.Core.Path.{_≡_, refl, sym, ap, subst, _∙_}
+use mathlib.Core.Bool.{Bool, true, false, cond}
+use mathlib.Core.List.{List, [], _∷_, _++_}
+use native.Mathlib.Numerals.{one-add}
+use native.Mathlib.Decide.{decLe}
+use native.Mathlib.Omega.{arith}
+use lib.Dec.{eqb}
+use lib.ListN.{length, getD, set, List·getD-eq-default}
+use borrow.Author.Tests.{ltb-false, ne-eqb}
+use Rattle.bits.specs.Packed.{Packed, bitsAt}
+use Rattle.bits.proofs.Run.{bits-lt}
+use Rattle.rules.specs.declared.Method.the-variants.{Hash}
+use Rattle.rules.specs.Ranges.{keep, least}
+use Rattle.rules.specs.Pattern.{Pattern}
+use Rattle.rules.specs.Occurrence.{places, matches}
+use Rattle.rules.specs.Hash.{meets, hashOf, hashAgain, lastEight, hashFinds, hashNext}
+use Rattle.rules.specs.Step.{finds, ahead, next}
+use Rattle.matcher.specs.Progress.{textOf, Ready, GoodPattern, Reaches, Quiet, Stepped}
+use Rattle.rules.proofs.Occurrence.{occurs-inside}
+use Rattle.rules.proofs.Hash.{LeastMeeting, again-least, hash-compares}
+use Rattle.matcher.proofs.Progress.{reaches-quiet}
+use Rattle.matcher.proofs.Writing.{Writing, writing-none, writing-more, stepped-whole, stepped-full}
+
+-- a comparison does not look at the text's bit count
+pub matches-any : (bytes : List ℕ) (n : ℕ) (w : Pattern) (s : ℕ) → matches (textOf bytes 0) w s ≡ matches (textOf bytes n) w s
+unfolding matches
+matches-any bytes n w s = refl
+
+pub long-enough : (w : Pattern) → GoodPattern Hash w → 8 ≤ w .count
+long-enough w g = ltb-false (w .count) 8 (g .fit)
+
+-- eight bits of the pattern lie inside its bytes
+pub eight-of-pattern : (w : Pattern) → GoodPattern Hash w → (p : ℕ) → p + 8 ≤ w .count
+    → (p + 8 ≤ length (w .bytes) * 8) × (p + 8 ≤ 2 ^ 32)
+eight-of-pattern w g p h =
+    let b = g .bytes-there in
+    let f = g .few-bits in
+    (omega arith, omega arith)
+
+-- whether H(B) is 0 or not, the move is the least d from 1 on
+move-again : (w : Pattern) (B : ℕ) → 1 ≤ w .count → cond (eqb (hashOf w B) 0) (hashAgain w B) (hashOf w B) ≡ hashAgain w B
+unfolding hashOf hashAgain least
+move-again w B h = rw (one-add (w .count)) (go (meets w B 0))
+  where
+    again : ℕ
+    again = least (meets w B) 1 (w .count)
+
+    some : again ≡ 0 → ⊥
+    some e = omega (arith, again-least w B h .low)
+
+    go : (z : Bool) → cond (eqb (cond z 0 again) 0) again (cond z 0 again) ≡ again
+    go true = refl
+    go false = rw (ne-eqb again 0 some)
+
+-- What the cell of the eight bits at s holds.
+pub record CellAt (t : Packed) (w : Pattern) (cells : List ℕ) (s v : ℕ) : Type 0 where
+  pub small : v < 256
+  pub there : v < length cells
+  pub low : 1 ≤ getD cells v 0
+  pub high : getD cells v 0 ≤ w .count
+  pub moves : next Hash t w s ≡ min (s + getD cells v 0) (places t w)
+
+module _ (t : Packed) (w : Pattern) (cells : List ℕ) (ready : Ready Hash t w cells) where
+  long : 8 ≤ w .count
+  long = long-enough w (ready .pattern)
+
+  pub cell-at : (s v : ℕ) → v ≡ bitsAt (t .bytes) (s + (w .count - 8)) 8 → CellAt t w cells s v
+  unfolding next ahead hashNext lastEight
+  cell-at s v e =
+      record { small = rw e (bits-lt (t .bytes) (s + (w .count - 8)) 8); there = inside; low = rw cell (r .low); high = rw cell (r .high); moves = rw cell moved }
+    where
+      B : ℕ
+      B = bitsAt (t .bytes) (s + w .count - 8) 8
+
+      same : v ≡ B
+      same =
+          let l = long in
+          let at : s + (w .count - 8) ≡ s + w .count - 8 = omega arith in
+          e ∙ ap (λ (p : ℕ). bitsAt (t .bytes) p 8) at
+
+      r : LeastMeeting w B 1 (hashAgain w B)
+      r = again-least w B (omega (arith, long))
+
+      cell : getD cells v 0 ≡ hashAgain w B
+      cell = ap (λ (x : ℕ). getD cells x 0) same ∙ ready .tables .move-is B (bits-lt (t .bytes) (s + w .count - 8) 8)
+
+      inside : v < length cells
+      inside = go (decLe (length cells) v)
+        where
+          go : Dec (length cells ≤ v) → v < length cells
+          go (yes h) = absurd (omega (arith, r .low, sym cell ∙ List·getD-eq-default cells 0 h))
+          go (no h) = omega arith
+
+      moved : min (s + cond (eqb (hashOf w B) 0) (hashAgain w B) (hashOf w B)) (places t w) ≡ min (s + hashAgain w B) (places t w)
+      moved = ap (λ (d : ℕ). min (s + d) (places t w)) (move-again w B (omega (arith, long)))
+
+  -- the last eight bits of a window lie inside the text's bytes
+  pub eight-inside : (s : ℕ) → s < places t w
+      → (s + (w .count - 8) + 8 ≤ length (t .bytes) * 8) × (s + (w .count - 8) + 8 ≤ 2 ^ 32)
+  eight-inside s h =
+      let l = long in
+      let b = ready .bytes-there in
+      let f = ready .few-bits in
+      let i = ready .inside in
+      (omega arith, omega arith)
+
+  -- a step finds its place just where the pattern stands
+  pub step-finds : (s : ℕ) → s < places t w → finds Hash t w s ≡ keep (matches t w s) s []
+  unfolding finds hashFinds
+  step-finds s inside = ap (λ (b : Bool). keep b s []) (hash-compares t w s long inside ∙ occurs-inside t w s inside)
+
+  -- a step more that finds nothing
+  pub quiet-more : (from at steps v : ℕ) → Reaches Hash t w from steps [] (min at (places t w)) → at < places t w
+      → v ≡ bitsAt (t .bytes) (at + (w .count - 8)) 8 → matches t w at ≡ false
+      → Reaches Hash t w from (steps + 1) [] (min (at + getD cells v 0) (places t w))
+  quiet-more from at steps v f inside e miss =
+      let here : min at (places t w) ≡ at = omega arith in
+      let nothing : finds Hash t w at ≡ [] = step-finds at inside ∙ ap (λ (b : Bool). keep b at []) miss in
+      rw (cell-at at v e .moves) at (reaches-quiet Hash t w from at steps (rw here at f) inside nothing)
+
+  -- where it stops
+  pub quiet-ends : (from at steps budget stop : ℕ) → Reaches Hash t w from steps [] (min at (places t w)) → steps ≤ budget
+      → stop ≡ min at (places t w) → Quiet Hash t w from budget stop steps
+  quiet-ends from at steps budget stop f few e = record { reaches = rw e f; within = few; inside = omega arith }
+
+  module _ (s : ℕ) (inside : s < places t w) (before : List ℕ) (had : ℕ) where
+    -- the pattern stands at s, and no cell is free
+    pub stepped-cut : matches t w s ≡ true → had ≡ length before → Stepped Hash t w s before had s had true before
+    stepped-cut hit h =
+        let found : finds Hash t w s ≡ [] ++ s ∷ [] = step-finds s inside ∙ ap (λ (b : Bool). keep b s []) hit in
+        let all : Writing before had [] before (length before) = record { cells = refl; count = omega arith; fits = omega arith } in
+        subst (λ (n : ℕ). Stepped Hash t w s before had s n true before) (sym h)
+        (stepped-full Hash t w s before had [] [] before s (omega arith) found all)
+
+    -- it stands there, and a cell is free
+    pub stepped-hit : (at : ℕ) → at ≡ next Hash t w s → matches t w s ≡ true → had < length before → Stepped Hash t w s before had at (had + 1) false (set before had s)
+    stepped-hit at moved hit h =
+        let found : finds Hash t w s ≡ [] ++ s ∷ [] = step-finds s inside ∙ ap (λ (b : Bool). keep b s []) hit in
+        rw moved
+        (stepped-whole Hash t w s before had (set before had s) (had + 1)
+        (rw found (writing-more before had [] before had s (writing-none before had (omega arith)) h)))
+
+    -- it does not stand there
+    pub stepped-miss : (at : ℕ) → at ≡ next Hash t w s → matches t w s ≡ false → had ≤ length before → Stepped Hash t w s before had at had false before
+    stepped-miss at moved miss h =
+        let found : finds Hash t w s ≡ [] = step-finds s inside ∙ ap (λ (b : Bool). keep b s []) miss in
+        rw moved (stepped-whole Hash t w s before had before had (rw found (writing-none before had h)))

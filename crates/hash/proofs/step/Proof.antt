@@ -1,0 +1,73 @@
+-- `hash::step` meets its contract: the place is found just where the pattern stands.
+-- Assumes nothing.
+use borrow.Author.Needs.{needs}
+use mathlib.Core.Path.{_≡_, sym, _∙_}
+use mathlib.Core.Bool.{Bool}
+use native.Mathlib.Omega.{arith}
+use denote.Ref.{now}
+use Rattle.rules.specs.Occurrence.{matches}
+use Rattle.matcher.specs.Progress.{textOf, patternOf}
+use Rattle.hash.proofs.HashSteps.{matches-any, stepped-hit, stepped-miss, stepped-cut}
+use Rattle.hash.proofs.step.Statement.{statement}
+use Rattle.hash.proofs.step.Tie as tie
+
+-- the comparison's answer, of the text with its bit count
+stands : (c : tie.After-same) (b : Bool) → c .same .result ≡ b
+    → let a = c .before .before .before .before .before .before .args in
+    matches (textOf (now (a .text)) (a .n)) (patternOf (now (a .word)) (a .m)) (a .s .0) ≡ b
+stands c b e =
+    let a = c .before .before .before .before .before .before .args in
+    sym (matches-any (now (a .text)) (a .n) (patternOf (now (a .word)) (a .m)) (a .s .0)) ∙ sym (c .same .ensures) ∙ e
+
+next-mark-requires : tie.Need-next-mark-requires
+next-mark-requires c κs = search needs
+
+same-requires : tie.Need-same-requires
+same-requires c κs = search needs
+
+mul-list : tie.Need-mul-list
+mul-list c = search needs
+
+slice-write-list : tie.Need-slice-write-list
+slice-write-list c = search needs
+
+add-t15 : tie.Need-add-t15
+add-t15 c = search needs
+
+same-length : tie.Need-same-length
+same-length c = search needs
+
+returns : tie.Need-returns
+returns c =
+    let s = c .before .before .before .before .before .before .before .before in
+    let a = s .args in
+    stepped-hit (textOf (now (a .text)) (a .n)) (patternOf (now (a .word)) (a .m)) (now (a .cells)) (s .pre .0) (a .s .0) (s .pre .1 .1 .0) (now (a .list)) (a .had)
+    _ (c .before .before .before .next-mark .ensures) (stands (c .before .before) _ (c .before .if1 .taken)) (c .if2 .taken)
+
+returns-2 : tie.Need-returns-2
+returns-2 c =
+    let s = c .before .before .before .before .before .before .before .before in
+    let a = s .args in
+    stepped-cut (textOf (now (a .text)) (a .n)) (patternOf (now (a .word)) (a .m)) (now (a .cells)) (s .pre .0) (a .s .0) (s .pre .1 .1 .0) (now (a .list)) (a .had)
+    (stands (c .before .before) _ (c .before .if1 .taken)) (omega arith)
+
+returns-3 : tie.Need-returns-3
+returns-3 c =
+    let s = c .before .before .before .before .before .before .before in
+    let a = s .args in
+    stepped-miss (textOf (now (a .text)) (a .n)) (patternOf (now (a .word)) (a .m)) (now (a .cells)) (s .pre .0) (a .s .0) (s .pre .1 .1 .0) (now (a .list)) (a .had)
+    _ (c .before .before .next-mark .ensures) (stands (c .before) _ (c .if1 .left)) (s .pre .1 .1 .1)
+
+pub step-spec : {M : Type 1} → statement M
+step-spec =
+    tie.close
+    (tie.spec
+    next-mark-requires
+    same-requires
+    mul-list
+    slice-write-list
+    add-t15
+    same-length
+    returns
+    returns-2
+    returns-3)

@@ -1,0 +1,172 @@
+// The hash method. Cell B of the table holds the move behind the value B: the least d in 1..m that meets the condition.
+use bits::Place;
+use bits::load;
+use matcher::Found;
+use matcher::Hop;
+use matcher::compare;
+use matcher::compare::Head;
+use rules::Method;
+ghost use mathlib.Core.Path.{_≡_};
+ghost use Prim.Native.Nat.{_+_, _-_, _≤_, _<_};
+ghost use lib.ListN.{length};
+ghost use lib.Seq.{paste};
+ghost use Rattle.rules.specs.Occurrence.{places};
+ghost use Rattle.rules.specs.Step.{next};
+ghost use Rattle.hash.specs.HashMoves.{Entered};
+ghost use Rattle.matcher.specs.Tables.{cellsFor, Prepared};
+ghost use Rattle.matcher.specs.Progress.{textOf, patternOf, HeadOf, GoodPattern, Ready, Quiet, Stepped};
+
+// The first cells once more behind themselves.
+fn double(cells: &mut [u64], size: usize)
+    requires { ⌜ (size ≤ 128) × (256 ≤ length (now cells)) ⌝ }
+    ensures { λ _. ⌜ now (cells .exit) ≡ paste (now (cells .entry)) size (now (cells .entry)) size ⌝ }
+{
+    let mut i = 0usize;
+    while i < size {
+        cells[size + i] = cells[i];
+        i += 1;
+    }
+}
+
+// The moves from m − 7 up, at which the pattern's first bits are the value's last. Before turn k the first 2^(k − 1) cells
+// hold the moves above m − k, and a value has that of the cell that its last k − 1 bits number.
+fn prepare_ends(word: &[u8], m: u32, cells: &mut [u64])
+    requires { ⌜ GoodPattern Method.Hash (patternOf (now word) m) ⌝ }
+    requires { ⌜ 256 ≤ length (now cells) ⌝ }
+    ensures { λ _. ⌜ Entered (patternOf (now (word .entry)) m) (now (cells .entry)) (now (cells .exit)) (m - 8) ⌝ }
+{
+    let first = load::byte_at(word, Place(0));
+    cells[0] = m as u64;
+    let mut size = 1usize;
+    let mut k = 1u32;
+    while k < 8 {
+        double(cells, size);
+        cells[(first >> (8 - k)) as usize] = (m - k) as u64;
+        size *= 2;
+        k += 1;
+    }
+    double(cells, size);
+}
+
+// The moves d, d − 1, .. of k values that the pattern shows whole, one behind the other in one load.
+fn enter(word: &[u8], m: u32, d: u32, k: u32, cells: &mut [u64])
+    requires { ⌜ (d + 8 ≤ m) × (k ≤ d) × (k ≤ 57) × (256 ≤ length (now cells)) ⌝ }
+    requires { ⌜ Entered (patternOf (now word) m) (now cells) (now cells) d ⌝ }
+    ensures { λ _. ⌜ Entered (patternOf (now (word .entry)) m) (now (cells .entry)) (now (cells .exit)) (d - k) ⌝ }
+{
+    let mut x = load::word_at(word, Place(m - 8 - d));
+    let mut r = 0u32;
+    while r < k {
+        cells[(x >> 56) as usize] = (d - r) as u64;
+        x = x << 1;
+        r += 1;
+    }
+}
+
+// All moves, the greatest first: the least one of a value is entered last.
+pub fn prepare(word: &[u8], m: u32, cells: &mut [u64])
+    requires { ⌜ GoodPattern Method.Hash (patternOf (now word) m) ⌝ }
+    requires { ⌜ cellsFor Method.Hash m ≤ length (now cells) ⌝ }
+    ensures { λ _. ⌜ Prepared Method.Hash (patternOf (now (word .entry)) m) (now (cells .entry)) (now (cells .exit)) ⌝ }
+{
+    prepare_ends(word, m, cells);
+    let mut d = m - 8;
+    while 57 < d {
+        enter(word, m, d, 57, cells);
+        d -= 57;
+    }
+    enter(word, m, d, d, cells);
+}
+
+// Moves on as long as the pattern does not stand at the mark. Where it stands, the last eight bits are its own.
+pub fn quiet(
+    text: &[u8],
+    n: u32,
+    word: &[u8],
+    m: u32,
+    h: Head,
+    cells: &[u64],
+    s: Place,
+    budget: u32,
+) -> Hop
+    requires { ⌜ Ready Method.Hash (textOf (now text) n) (patternOf (now word) m) (now cells) ⌝ }
+    requires { ⌜ HeadOf (patternOf (now word) m) (h .bits) (h .cut) ⌝ }
+    requires { ⌜ s .0 ≤ places (textOf (now text) n) (patternOf (now word) m) ⌝ }
+    ensures { λ r. ⌜ Quiet Method.Hash (textOf (now (text .entry)) n) (patternOf (now (word .entry)) m) (s .0) budget (r .at .0) (r .steps) ⌝ }
+{
+    let end = n - m + 1;
+    let back = m - 8;
+    let last = load::byte_inside(word, Place(back));
+    let mut at = s.0;
+    let mut steps = 0u32;
+    while at < end && steps < budget {
+        let v = load::byte_inside(text, Place(at + back));
+        if v == last {
+            if compare::same(text, word, m, h, Place(at)) {
+                return Hop {
+                    at: Place(at),
+                    steps: steps,
+                };
+            }
+        }
+        at += cells[v] as u32;
+        steps += 1;
+    }
+    Hop {
+        at: Place(if at < end { at } else { end }),
+        steps: steps,
+    }
+}
+
+// The next mark behind s, cut at the number of places.
+fn next_mark(text: &[u8], n: u32, word: &[u8], m: u32, cells: &[u64], s: Place) -> u32
+    requires { ⌜ Ready Method.Hash (textOf (now text) n) (patternOf (now word) m) (now cells) ⌝ }
+    requires { ⌜ s .0 < places (textOf (now text) n) (patternOf (now word) m) ⌝ }
+    ensures { λ r. ⌜ r ≡ next Method.Hash (textOf (now (text .entry)) n) (patternOf (now (word .entry)) m) (s .0) ⌝ }
+{
+    let at = s.0;
+    let v = load::byte_inside(text, Place(at + (m - 8)));
+    let far = at + cells[v] as u32;
+    let limit = n - m + 1;
+    if far < limit { far } else { limit }
+}
+
+// One step: the place is found just if the pattern stands there.
+pub fn step(
+    text: &[u8],
+    n: u32,
+    word: &[u8],
+    m: u32,
+    h: Head,
+    cells: &[u64],
+    s: Place,
+    list: &mut [u32],
+    had: usize,
+) -> Found
+    requires { ⌜ Ready Method.Hash (textOf (now text) n) (patternOf (now word) m) (now cells) ⌝ }
+    requires { ⌜ HeadOf (patternOf (now word) m) (h .bits) (h .cut) ⌝ }
+    requires { ⌜ (s .0 < places (textOf (now text) n) (patternOf (now word) m)) × (had ≤ length (now list)) ⌝ }
+    ensures { λ r. ⌜ Stepped Method.Hash (textOf (now (text .entry)) n) (patternOf (now (word .entry)) m) (s .0) (now (list .entry)) had (r .at .0) (r .hits) (r .full) (now (list .exit)) ⌝ }
+{
+    let next = Place(next_mark(text, n, word, m, cells, s));
+    if compare::same(text, word, m, h, s) {
+        if had < list.len() {
+            list[had] = s.0;
+            return Found {
+                at: next,
+                hits: had + 1,
+                full: false,
+            };
+        }
+        return Found {
+            at: s,
+            hits: had,
+            full: true,
+        };
+    }
+    Found {
+        at: next,
+        hits: had,
+        full: false,
+    }
+}

@@ -1,0 +1,4 @@
+-- Laws that the methods share.
+pub mod Chunks
+pub mod Progress
+pub mod Writing

@@ -1,0 +1,77 @@
+-- Places written to a list one after the other, and what makes a step of them: every method's step ends by these laws.
+-- Assumes nothing.
+use mathlib.Core.Path.{_≡_, refl, sym, ap, ap₂, _∙_}
+use mathlib.Core.Bool.{Bool, true, false, cond}
+use mathlib.Core.List.{List, [], _∷_, _++_, append-nil}
+use Prim.Native.Nat.{ℕ, zero, suc, _+_, _-_, _≤_, _<_}
+use native.Mathlib.Nat.{add-zero, add-suc, add-assoc, zero-add}
+use native.Mathlib.Numerals.{add-one}
+use native.Mathlib.Omega.{arith}
+use borrow.Author.Tests.{lt-ltb, le-ltb}
+use lib.Dec.{ltb}
+use lib.ListN.{length, getD, take, set, length-append, length-set}
+use lib.Seq.{sets, length-sets, take-all, take-append-le, take-length, take-at, getD-at}
+use Rattle.bits.specs.Packed.{Packed}
+use Rattle.rules.specs.declared.Method.{Method}
+use Rattle.rules.specs.Ranges.{keep}
+use Rattle.rules.specs.Pattern.{Pattern}
+use Rattle.rules.specs.Step.{finds, next}
+use Rattle.matcher.specs.Progress.{Stepped}
+
+-- the places found so far stand in the list from cell `had` on, and `hits` cells are written
+pub record Writing (before : List ℕ) (had : ℕ) (found list : List ℕ) (hits : ℕ) : Type 0 where
+  pub cells : list ≡ sets before had found
+  pub count : hits ≡ had + length found
+  pub fits : hits ≤ length before
+
+pub writing-none : (before : List ℕ) (had : ℕ) → had ≤ length before → Writing before had [] before had
+writing-none before had h = record { cells = refl; count = sym (add-zero had); fits = h }
+
+sets-snoc : (l : List ℕ) (i : ℕ) (vs : List ℕ) (v : ℕ) → sets l i (vs ++ v ∷ []) ≡ set (sets l i vs) (i + length vs) v
+sets-snoc l i [] v = rw (add-zero i)
+sets-snoc l i (u ∷ vs) v =
+    let there : suc i + length vs ≡ i + suc (length vs) = omega arith in
+    sets-snoc (set l i u) (suc i) vs v ∙ ap (λ (n : ℕ). set (sets (set l i u) (suc i) vs) n v) there
+
+-- one place more
+pub writing-more : (before : List ℕ) (had : ℕ) (found list : List ℕ) (hits p : ℕ) → Writing before had found list hits
+    → hits < length before → Writing before had (found ++ p ∷ []) (set list hits p) (hits + 1)
+writing-more before had found list hits p u h =
+    record {
+      cells = ap₂ (λ (l : List ℕ) (n : ℕ). set l n p) (u .cells) (u .count) ∙ sym (sets-snoc before had found p);
+      count = omega (arith, u .count, length-append found (p ∷ []));
+      fits = omega arith;
+    }
+
+pub writing-length : (before : List ℕ) (had : ℕ) (found list : List ℕ) (hits : ℕ) → Writing before had found list hits → length list ≡ length before
+writing-length before had found list hits u = ap length (u .cells) ∙ length-sets before had found
+
+module _ (x : Method) (t : Packed) (w : Pattern) (s : ℕ) (before : List ℕ) (had : ℕ) where
+  -- all that the step finds is written
+  pub stepped-whole : (list : List ℕ) (hits : ℕ) → Writing before had (finds x t w s) list hits
+      → Stepped x t w s before had (next x t w s) hits false list
+  stepped-whole list hits u =
+      let room : length (finds x t w s) ≤ length before - had = omega (arith, u .count, u .fits) in
+      let all : take (length before - had) (finds x t w s) ≡ finds x t w s = take-all _ _ room in
+      record {
+        is-full = sym (le-ltb _ _ room);
+        mark = refl;
+        count = rw all (u .count);
+        cells = rw all (u .cells);
+      }
+
+  -- the list is full, and the step finds p next
+  pub stepped-full : (found rest list : List ℕ) (p : ℕ) → had ≤ length before → finds x t w s ≡ found ++ p ∷ rest → Writing before had found list (length before)
+      → Stepped x t w s before had p (length before) true list
+  stepped-full found rest list p h e u =
+      let free : length found ≡ length before - had = omega (arith, u .count) in
+      let front : take (length before - had) (finds x t w s) ≡ found = rw e (take-at found (p ∷ rest) (length before - had) free) in
+      let size : length (finds x t w s) ≡ length found + length (p ∷ rest) = ap length e ∙ length-append found (p ∷ rest) in
+      let more : length before - had < length (finds x t w s) = omega arith in
+      let there : getD (finds x t w s) (length before - had) 0 ≡ p = rw e (getD-at found p rest 0 (length before - had) free) in
+      record {
+        is-full = sym (lt-ltb _ _ more);
+        mark = sym there;
+        count = rw front (u .count);
+        cells = rw front (u .cells);
+      }

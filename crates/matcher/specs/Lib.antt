@@ -1,0 +1,3 @@
+-- What the methods' contracts cite: what their tables hold, and what a step promises.
+pub mod Tables
+pub mod Progress

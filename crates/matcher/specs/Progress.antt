@@ -1,0 +1,62 @@
+-- What a method and the loop over it promise each other: a part of the machine's run, and one step with its list.
+use Prim.Native.Nat.{ℕ, _+_, _-_, _^_, _≤_, _<_, min}
+use mathlib.Core.Path.{_≡_}
+use mathlib.Core.Bool.{Bool, true, false, cond}
+use mathlib.Core.List.{List, [], _++_}
+use lib.Dec.{ltb, eqb}
+use lib.ListN.{length, getD, take, drop}
+use lib.Seq.{sets}
+use Rattle.bits.specs.Packed.{Packed, bytesFor, bitsAt}
+use Rattle.rules.specs.declared.Method.{Method}
+use Rattle.rules.specs.Pattern.{Pattern}
+use Rattle.rules.specs.Occurrence.{places}
+use Rattle.rules.specs.Step.{unfit, finds, next}
+use Rattle.rules.specs.Machine.{Ending, done, spent, full, run, after}
+use Rattle.matcher.specs.Tables.{Tables, cellsFor}
+
+-- bytes and a bit count as the text
+abbrev pub textOf : List ℕ → ℕ → Packed
+textOf bytes n = record { bytes = bytes; count = n }
+
+-- bytes and a bit count as the pattern
+abbrev pub patternOf : List ℕ → ℕ → Pattern
+patternOf bytes m = record { bytes = bytes; count = m }
+
+-- the first 64 bits of the pattern, or all of a shorter one, as a number, and by how many bits that is short of 64
+abbrev pub HeadOf : Pattern → ℕ → ℕ → Type 0
+HeadOf w bits cut = (bits ≡ bitsAt (w .bytes) 0 (min (w .count) 64)) × (cut ≡ 64 - min (w .count) 64)
+
+-- What a pattern is when it has passed the refusals, and the scratch.
+pub record GoodPattern (x : Method) (w : Pattern) : Type 0 where
+  pub some-bits : 0 < w .count
+  pub few-bits : w .count ≤ 2048
+  pub bytes-there : bytesFor (w .count) ≤ length (w .bytes)
+  pub fit : unfit x (w .count) ≡ false
+
+-- What a step may rely on: text and pattern have passed the refusals, the pattern fits into the text, the tables are made.
+pub record Ready (x : Method) (t : Packed) (w : Pattern) (cells : List ℕ) : Type 0 where
+  pub few-bits : t .count ≤ 2 ^ 30
+  pub bytes-there : bytesFor (t .count) ≤ length (t .bytes)
+  pub pattern : GoodPattern x w
+  pub inside : w .count ≤ t .count
+  pub tables : Tables x w cells
+  pub room : cellsFor x (w .count) ≤ length cells
+
+-- k steps from the mark s find these places, each with a cell, and leave the mark at: whatever budget and cells are left
+unfoldable pub Reaches : Method → Packed → Pattern → ℕ → ℕ → List ℕ → ℕ → Type 0
+Reaches x t w s k found at =
+    (b cells : ℕ) → length found ≤ cells → run x t w (k + b) s cells ≡ after k found (run x t w b at (cells - length found))
+
+-- steps from the mark s that find nothing, at most so many
+pub record Quiet (x : Method) (t : Packed) (w : Pattern) (s budget at steps : ℕ) : Type 0 where
+  pub reaches : Reaches x t w s steps [] at
+  pub within : steps ≤ budget
+  pub inside : at ≤ places t w
+
+-- One step at s, with the list's cells from `had` on free: the places that found a cell stand there, and the mark is the
+-- next one, or the first place without a cell.
+pub record Stepped (x : Method) (t : Packed) (w : Pattern) (s : ℕ) (before : List ℕ) (had at hits : ℕ) (full : Bool) (list : List ℕ) : Type 0 where
+  pub is-full : full ≡ ltb (length before - had) (length (finds x t w s))
+  pub mark : at ≡ cond full (getD (finds x t w s) (length before - had) 0) (next x t w s)
+  pub count : hits ≡ had + length (take (length before - had) (finds x t w s))
+  pub cells : list ≡ sets before had (take (length before - had) (finds x t w s))

@@ -1,0 +1,19 @@
+// What the four methods share: the comparison at a place, and what their steps give back. A method is a crate of its own
+// with three functions: `prepare` makes its tables, `quiet` makes steps as long as they find nothing, `step` makes one.
+pub mod compare;
+
+use bits::Place;
+
+// Where a stretch of steps that find nothing ends, and how many they are.
+pub struct Hop {
+    pub at: Place,
+    pub steps: u32,
+}
+
+// What one step leaves: the next mark, how many cells of the list are written, and whether a place found none; the mark is
+// then that place.
+pub struct Found {
+    pub at: Place,
+    pub hits: usize,
+    pub full: bool,
+}

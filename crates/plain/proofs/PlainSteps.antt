@@ -1,0 +1,80 @@
+-- Steps of the plain method, from the comparison at a place: places that do not match are passed, one that does is written.
+-- Assumes nothing.
+use Prim.Native.Nat.{ℕ, zero, suc, _+_, _-_, _^_, _≤_, _<_}
+use mathlib.Core.Path.{_≡_, sym, _∙_}
+use mathlib.Core.Logic.{_↔_}
+use mathlib.Core.Bool.{Bool, true, false}
+use mathlib.Core.List.{List, [], _∷_}
+use native.Mathlib.Nat.{add-zero}
+use native.Mathlib.Numerals.{add-one}
+use native.Mathlib.Omega.{arith}
+use lib.ListN.{length, getD, set}
+use Rattle.bits.specs.Packed.{Packed}
+use Rattle.rules.specs.declared.Method.the-variants.{Plain}
+use Rattle.rules.specs.Pattern.{Pattern}
+use Rattle.rules.specs.Occurrence.{places, matches}
+use Rattle.rules.specs.Plain.{plainFinds}
+use Rattle.rules.specs.Step.{finds, ahead, next}
+use Rattle.matcher.specs.Progress.{Ready, Reaches, Quiet, Stepped}
+use Rattle.matcher.specs.Tables.{rowChunks}
+use Rattle.plain.specs.RowCells.{cellFits}
+use Rattle.rules.proofs.Plain.{rows-match}
+use Rattle.plain.proofs.RowCells.{fits-matches}
+use Rattle.matcher.proofs.Progress.{reaches-none, reaches-quiet}
+use Rattle.matcher.proofs.Writing.{writing-none, writing-more, stepped-whole, stepped-full}
+
+module _ (t : Packed) (w : Pattern) where
+  finds-none : (s : ℕ) → matches t w s ≡ false → finds Plain t w s ≡ []
+  unfolding finds plainFinds
+  finds-none s e = rw (rows-match t w s, e)
+
+  finds-one : (s : ℕ) → matches t w s ≡ true → finds Plain t w s ≡ s ∷ []
+  unfolding finds plainFinds
+  finds-one s e = rw (rows-match t w s, e)
+
+  next-one : (s : ℕ) → s < places t w → next Plain t w s ≡ s + 1
+  unfolding next ahead
+  next-one s h = omega arith
+
+  -- d places that do not match are d steps that find nothing
+  passed : (s d : ℕ) → s + d ≤ places t w → ((p : ℕ) → s ≤ p → p < s + d → matches t w p ≡ false) → Reaches Plain t w s d [] (s + d)
+  passed s zero h f = rw (add-zero s) (reaches-none Plain t w s)
+  passed s (suc d) h f =
+      let there : next Plain t w (s + d) ≡ s + suc d = next-one (s + d) (omega arith) ∙ omega arith in
+      rw (there, add-one) at
+      (reaches-quiet Plain t w s (s + d) d (passed s d (omega arith) (λ p l u. f p l (omega arith))) (omega arith)
+      (finds-none (s + d) (f (s + d) (omega arith) (omega arith))))
+
+  pub quiet-to : (s at budget : ℕ) → s ≤ at → at ≤ places t w → at ≤ s + budget → ((p : ℕ) → s ≤ p → p < at → matches t w p ≡ false)
+      → Quiet Plain t w s budget at (at - s)
+  quiet-to s at budget l h b f =
+      let there : s + (at - s) ≡ at = omega arith in
+      record {
+        reaches = rw there at (passed s (at - s) (omega arith) (λ p g u. f p g (omega arith)));
+        within = omega arith;
+        inside = h;
+      }
+
+  -- one step, from a test r of all cells of the row at s
+  module _ (cells : List ℕ) (ready : Ready Plain t w cells) (small : (x : ℕ) → getD cells x 0 < 2 ^ 64) (s : ℕ) (inside : s < places t w)
+      (before : List ℕ) (had : ℕ) (fits : had ≤ length before) (r : Bool)
+      (iff : (r ≡ true) ↔ ((k : ℕ) → 0 ≤ k → k < rowChunks (w .count) → cellFits (t .bytes) cells s k ≡ true)) where
+    same : r ≡ matches t w s
+    same = fits-matches t w cells (ready .tables) s small r iff
+
+    pub step-none : r ≡ false → Stepped Plain t w s before had (s + 1) had false before
+    step-none e =
+        rw (next-one s inside) at
+        (stepped-whole Plain t w s before had before had (rw (finds-none s (sym same ∙ e)) (writing-none before had fits)))
+
+    pub step-one : r ≡ true → had < length before → Stepped Plain t w s before had (s + 1) (had + 1) false (set before had s)
+    step-one e h =
+        rw (next-one s inside) at
+        (stepped-whole Plain t w s before had (set before had s) (had + 1)
+        (rw (finds-one s (sym same ∙ e)) (writing-more before had [] before had s (writing-none before had fits) h)))
+
+    pub step-full : r ≡ true → length before ≤ had → Stepped Plain t w s before had s had true before
+    step-full e h =
+        let whole : length before ≡ had = omega arith in
+        rw whole at
+        (stepped-full Plain t w s before had [] [] before s fits (finds-one s (sym same ∙ e)) (rw whole (writing-none before had fits)))

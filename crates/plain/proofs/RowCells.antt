@@ -1,0 +1,166 @@
+-- Comparison by cells of eight row bytes: the cells of a place's row all agree with the text just if the pattern stands there.
+-- Assumes nothing.
+use Prim.Native.Nat.{ℕ, _+_, _-_, _*_, _/_, _%_, _^_, _≤_, _<_, min}
+use mathlib.Core.Path.{_≡_, refl, sym, ap, ap₂, _∙_}
+use mathlib.Core.Logic.{_↔_}
+use mathlib.Core.Bool.{Bool, true, false}
+use mathlib.Core.List.{List}
+use native.Mathlib.Decide.{decLe}
+use native.Mathlib.Nat.{lt-of-le-of-lt, zero-div}
+use native.Mathlib.Omega.{arith}
+use lib.Bits.{bitAnd, and-le-l}
+use lib.Dec.{eqb}
+use lib.ListN.{length, getD, List·getD-eq-default}
+use borrow.Author.Tests.{eqb-true, eq-eqb}
+use Rattle.bits.specs.Packed.{Packed, weight, bitAt, bitsAt}
+use Rattle.bits.proofs.Weight.{weight-and, same-weights}
+use Rattle.bits.proofs.Run.{bit-lt, bits-lt, bit-of-bits}
+use Rattle.rules.specs.Ranges.{every}
+use Rattle.rules.specs.Pattern.{Pattern, agrees}
+use Rattle.rules.specs.Occurrence.{matches}
+use Rattle.rules.specs.Plain.{inRow, rowBit, maskBit}
+use Rattle.matcher.specs.Tables.{rowChunks, PlainTables}
+use Rattle.plain.specs.RowCells.{cellFits}
+use Rattle.rules.proofs.Ranges.{not-true-false, same-test, every-at, to-every}
+use Rattle.rules.proofs.Pattern.{agrees-iff}
+use Rattle.rules.proofs.Occurrence.{matches-at, to-matches}
+use Rattle.rules.proofs.Plain.{in-row, to-in-row, mask-bit-is, row-bit-is}
+
+-- a test that answers true, or false, just if something holds
+pub granted : {A : Type 0} → A → (true ≡ true) ↔ A
+granted a = (λ e. a, λ b. refl)
+
+pub refused : {A : Type 0} → (A → ⊥) → (false ≡ true) ↔ A
+refused h = (λ e. let z : _≡_ {A = ℕ} 0 1 = cc in absurd (omega arith), λ a. absurd (h a))
+
+-- a test that fails below n rules out that all pass; and so does one that fails from a number on
+pub one-fails : (n j : ℕ) (f : ℕ → Bool) → j < n → f j ≡ false → every n f ≡ false
+one-fails n j f h e =
+    not-true-false _ (λ all.
+    let both : true ≡ false = sym (every-at n f all j h) ∙ e in
+    let z : _≡_ {A = ℕ} 0 1 = cc in
+    omega arith)
+
+pub rest-fails : (n from : ℕ) (f : ℕ → Bool) (r : Bool) → (r ≡ true) ↔ ((k : ℕ) → from ≤ k → k < n → f k ≡ true)
+    → r ≡ false → every n f ≡ false
+rest-fails n from f r iff e =
+    not-true-false _ (λ all.
+    let both : false ≡ true = sym e ∙ iff .1 (λ k l h. every-at n f all k h) in
+    let z : _≡_ {A = ℕ} 0 1 = cc in
+    omega arith)
+
+module _ (text cells : List ℕ) where
+  -- a cell read at its place in the table, and the eight bytes of the text at theirs
+  pub cell-read : (s k x : ℕ) → x ≡ bitsAt text ((s / 8 + 8 * k) * 8) 64
+      → eqb (bitAnd x (getD cells (16 * k + s % 8 + 8) 0)) (getD cells (16 * k + s % 8) 0) ≡ cellFits text cells s k
+  unfolding cellFits
+  cell-read s k x e =
+      let bytes : (s / 8 + 8 * k) * 8 ≡ 8 * (s / 8) + 64 * k = omega arith in
+      let mask : 16 * k + s % 8 + 8 ≡ 16 * k + 8 + s % 8 = omega arith in
+      ap₂ (λ (y z : ℕ). eqb (bitAnd y (getD cells z 0)) (getD cells (16 * k + s % 8) 0)) (e ∙ ap (λ (n : ℕ). bitsAt text n 64) bytes) mask
+
+  -- the same of the first cells of the eight rows at byte b: rows that do not agree rule their places out
+  pub block-passed : (b a r x : ℕ) → r ≤ 8 → x ≡ bitsAt text (b * 8) 64
+      → ((i : ℕ) → a ≤ i → i < r → eqb (bitAnd x (getD cells (8 + i) 0)) (getD cells i 0) ≡ false)
+      → (p : ℕ) → 8 * b + a ≤ p → p < 8 * b + r → cellFits text cells p 0 ≡ false
+  block-passed b a r x h e f p l u =
+      let byte : p / 8 ≡ b = omega arith in
+      let bytes : b * 8 ≡ (p / 8 + 8 * 0) * 8 = omega arith in
+      let mask : 16 * 0 + p % 8 + 8 ≡ 8 + p % 8 = omega arith in
+      let row : 16 * 0 + p % 8 ≡ p % 8 = omega arith in
+      sym (cell-read p 0 x (e ∙ ap (λ (n : ℕ). bitsAt text n 64) bytes))
+      ∙ ap₂ (λ (y z : ℕ). eqb (bitAnd x (getD cells y 0)) (getD cells z 0)) mask row
+      ∙ f (p % 8) (omega arith) (omega arith)
+
+module _ (t : Packed) (w : Pattern) (cells : List ℕ) (tables : PlainTables w cells) (s : ℕ) where
+  -- tables that are made take their cells: row 7 has its last bit in the last of them
+  pub tables-long : 0 < w .count → 16 * rowChunks (w .count) ≤ length cells
+  tables-long some = elim (decLe (length cells) (16 * k + 8 + 7)) [ yes short ↦ absurd (none short) | no h ↦ omega arith ]
+    where
+      k : ℕ
+      k = (w .count + 6) / 64
+
+      j : ℕ
+      j = (w .count + 6) % 64
+
+      none : length cells ≤ 16 * k + 8 + 7 → ⊥
+      none short =
+          let inside : inRow w 7 (8 * k + j / 8) (j % 8) ≡ true = to-in-row w 7 (8 * k + j / 8) (j % 8) (omega arith) (omega arith) in
+          let zeros : weight (getD cells (16 * k + 8 + 7) 0) (63 - j) ≡ 0 = rw (List·getD-eq-default cells 0 short, zero-div) in
+          omega (arith, zeros, tables .mask-is 7 k j (omega arith) (omega arith) (omega arith), mask-bit-is w 7 (8 * k + j / 8) (j % 8) true inside)
+
+  -- the eight bytes under cell k, and bit j of them under the mask
+  under : ℕ → ℕ
+  under k = bitsAt (t .bytes) (8 * (s / 8) + 64 * k) 64
+
+  masked : ℕ → ℕ
+  masked k = bitAnd (under k) (getD cells (16 * k + 8 + s % 8) 0)
+
+  masked-bit : (k j : ℕ) → k < rowChunks (w .count) → j < 64
+      → weight (masked k) (63 - j) ≡ min (bitAt (t .bytes) (8 * (s / 8) + 64 * k + j)) (maskBit w (s % 8) (8 * k + j / 8) (j % 8))
+  unfolding masked under
+  masked-bit k j h l =
+      weight-and (under k) (getD cells (16 * k + 8 + s % 8) 0) (63 - j)
+      ∙ ap₂ min (bit-of-bits (t .bytes) (8 * (s / 8) + 64 * k) {j = j} {k = 64} l) (tables .mask-is (s % 8) k j (omega arith) h l)
+
+  -- a cell that agrees settles the bits of the pattern that it covers
+  pub cell-agrees : (k : ℕ) → k < rowChunks (w .count) → cellFits (t .bytes) cells s k ≡ true
+      → (q : ℕ) → q < w .count → 64 * k ≤ s % 8 + q → s % 8 + q < 64 * k + 64 → agrees w q (bitAt (t .bytes) (s + q)) ≡ true
+  unfolding cellFits masked under
+  cell-agrees k h e q l lo hi =
+      let j : ℕ = s % 8 + q - 64 * k in
+      let inside : inRow w (s % 8) (8 * k + j / 8) (j % 8) ≡ true = to-in-row w (s % 8) (8 * k + j / 8) (j % 8) (omega arith) (omega arith) in
+      let both : min (bitAt (t .bytes) (8 * (s / 8) + 64 * k + j)) (maskBit w (s % 8) (8 * k + j / 8) (j % 8)) ≡ rowBit w (s % 8) (8 * k + j / 8) (j % 8)
+      = sym (masked-bit k j h (omega arith)) ∙ ap (λ (x : ℕ). weight x (63 - j)) (eqb-true _ _ e) ∙ tables .row-is (s % 8) k j (omega arith) h (omega arith) in
+      let there : 8 * (s / 8) + 64 * k + j ≡ s + q = omega arith in
+      let index : 8 * (8 * k + j / 8) + j % 8 - s % 8 ≡ q = omega arith in
+      let text : bitAt (t .bytes) (8 * (s / 8) + 64 * k + j) ≡ bitAt (t .bytes) (s + q) = ap (bitAt (t .bytes)) there in
+      let word : bitAt (w .bytes) (8 * (8 * k + j / 8) + j % 8 - s % 8) ≡ bitAt (w .bytes) q = ap (bitAt (w .bytes)) index in
+      agrees-iff w q (bitAt (t .bytes) (s + q)) .1
+      (omega (arith, mask-bit-is w (s % 8) (8 * k + j / 8) (j % 8) true inside, row-bit-is w (s % 8) (8 * k + j / 8) (j % 8) true inside, bit-lt (t .bytes) (s + q)))
+
+  module _ (small : (x : ℕ) → getD cells x 0 < 2 ^ 64) where
+    -- where the pattern stands, each cell agrees
+    pub cell-of : matches t w s ≡ true → (k : ℕ) → k < rowChunks (w .count) → cellFits (t .bytes) cells s k ≡ true
+    unfolding cellFits masked under
+    cell-of e k h =
+        eq-eqb _ _
+        (same-weights 64 _ _
+        (lt-of-le-of-lt (and-le-l (under k) (getD cells (16 * k + 8 + s % 8) 0)) (bits-lt (t .bytes) (8 * (s / 8) + 64 * k) 64))
+        (small (16 * k + s % 8))
+        (λ y l.
+        let back : 63 - (63 - y) ≡ y = omega arith in
+        rw back at (each (63 - y) (omega arith) (inRow w (s % 8) (8 * k + (63 - y) / 8) ((63 - y) % 8)) refl)))
+      where
+        each : (j : ℕ) → j < 64 → (b : Bool) → inRow w (s % 8) (8 * k + j / 8) (j % 8) ≡ b
+            → weight (masked k) (63 - j) ≡ weight (getD cells (16 * k + s % 8) 0) (63 - j)
+        each j l true r =
+            let place = in-row w (s % 8) (8 * k + j / 8) (j % 8) r in
+            let q : ℕ = 8 * (8 * k + j / 8) + j % 8 - s % 8 in
+            let same = agrees-iff w q (bitAt (t .bytes) (s + q)) .0 (matches-at t w s e q (place .1)) in
+            let there : 8 * (s / 8) + 64 * k + j ≡ s + q = omega arith in
+            let text : bitAt (t .bytes) (8 * (s / 8) + 64 * k + j) ≡ bitAt (t .bytes) (s + q) = ap (bitAt (t .bytes)) there in
+            masked-bit k j h l
+            ∙ omega (arith, mask-bit-is w (s % 8) (8 * k + j / 8) (j % 8) true r, row-bit-is w (s % 8) (8 * k + j / 8) (j % 8) true r, bit-lt (t .bytes) (s + q))
+            ∙ sym (tables .row-is (s % 8) k j (omega arith) h l)
+        each j l false r =
+            masked-bit k j h l
+            ∙ omega (arith, mask-bit-is w (s % 8) (8 * k + j / 8) (j % 8) false r, row-bit-is w (s % 8) (8 * k + j / 8) (j % 8) false r)
+            ∙ sym (tables .row-is (s % 8) k j (omega arith) h l)
+
+    -- all cells of the row
+    pub cells-match : every (rowChunks (w .count)) (cellFits (t .bytes) cells s) ≡ matches t w s
+    cells-match =
+        same-test _ _
+        (λ e. to-matches t w s (λ q l.
+        cell-agrees ((s % 8 + q) / 64) (omega arith)
+        (every-at (rowChunks (w .count)) (cellFits (t .bytes) cells s) e ((s % 8 + q) / 64) (omega arith)) q l (omega arith) (omega arith)))
+        (λ e. to-every (rowChunks (w .count)) (cellFits (t .bytes) cells s) (cell-of e))
+
+    -- so does the test of all cells that row_fits makes
+    pub fits-matches : (r : Bool) → (r ≡ true) ↔ ((k : ℕ) → 0 ≤ k → k < rowChunks (w .count) → cellFits (t .bytes) cells s k ≡ true)
+        → r ≡ matches t w s
+    fits-matches r iff =
+        same-test r (matches t w s)
+        (λ e. sym cells-match ∙ to-every (rowChunks (w .count)) (cellFits (t .bytes) cells s) (λ k h. iff .0 e k (omega arith) h))
+        (λ e. iff .1 (λ k l h. cell-of e k h))

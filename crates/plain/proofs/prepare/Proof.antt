@@ -1,0 +1,85 @@
+-- `plain::prepare` meets its contract. The loop's invariant: the cells before 16 k are made.
+-- Assumes nothing.
+use borrow.Author.Needs.{needs}
+use Prim.Native.Nat.{_-_, _≤_}
+use native.Mathlib.Omega.{arith}
+use mathlib.Core.Path.{_≡_}
+use denote.Ref.{now}
+use Rattle.matcher.specs.Tables.{rowChunks}
+use Rattle.matcher.specs.Progress.{patternOf}
+use Rattle.plain.proofs.RowsMade.{Made, made-none, mask-holds, row-holds, made-more, made-all}
+use Rattle.plain.proofs.prepare.Statement.{statement}
+use Rattle.plain.proofs.prepare.Tie as tie
+
+abbrev Inv-loop : tie.InvT-loop
+Inv-loop word m cells₀ chunks prev₀ prev-mask₀ k₀ cells prev prev-mask k = (k ≤ chunks) × Made (patternOf word m) k prev prev-mask cells₀ cells
+
+abbrev μ-loop : tie.MeasureT-loop
+μ-loop word m cells₀ chunks prev₀ prev-mask₀ k₀ cells prev prev-mask k = chunks - k
+
+add-chunks : tie.Need-add-chunks Inv-loop μ-loop
+add-chunks c = search needs
+
+loop-holds : tie.Need-loop-holds Inv-loop μ-loop
+loop-holds c = let a = c .before .before .args in (omega arith, made-none (patternOf (now (a .word)) (a .m)) (now (a .cells)))
+
+ones-requires : tie.Need-ones-requires Inv-loop μ-loop
+ones-requires c κs = search needs
+
+mul-t13 : tie.Need-mul-t13 Inv-loop μ-loop
+mul-t13 c = search needs
+
+word-at-requires : tie.Need-word-at-requires Inv-loop μ-loop
+word-at-requires c κs = search needs
+
+cast-fill : tie.Need-cast-fill Inv-loop μ-loop
+cast-fill c = search needs
+
+fill-requires : tie.Need-fill-requires Inv-loop μ-loop
+fill-requires c κs = search needs
+
+add-k : tie.Need-add-k Inv-loop μ-loop
+add-k c = search needs
+
+loop-less : tie.Need-loop-less Inv-loop μ-loop
+loop-less c = search needs
+
+loop-again : tie.Need-loop-again Inv-loop μ-loop
+loop-again c =
+    let a = c .before .before .before .before .before .before .before .before .before .before .args in
+    let l = c .before .before .before .before .before .before .before .loop in
+    let w = patternOf (now (a .word)) (a .m) in
+    let ms = mask-holds w (l .k) _ (c .before .before .before .before .before .ones .ensures) in (
+      omega arith,
+      made-more w (l .k) (l .prev) (l .prev-mask) _ _ (now (a .cells)) (l .cells) _ (l .inv .1)
+          (row-holds w (l .k) _ _ ms (c .before .before .before .before .word-at .ensures)) ms (c .before .before .fill .ensures),
+    )
+
+same-length : tie.Need-same-length Inv-loop μ-loop
+same-length c = c .before .loop .inv .1 .size
+
+returns : tie.Need-returns Inv-loop μ-loop
+returns c =
+    let s = c .before .before .before .before in
+    let l = c .before .loop in
+    let whole : rowChunks (s .args .m) ≡ l .k = omega arith in
+    made-all (patternOf (now (s .args .word)) (s .args .m)) (l .k) _ _ (now (s .args .cells)) (l .cells) (l .inv .1) (s .pre .0 .some-bits) whole
+
+pub prepare-spec : {M : Type 1} → statement M
+prepare-spec =
+    tie.close
+    (tie.spec
+    Inv-loop
+    μ-loop
+    add-chunks
+    loop-holds
+    ones-requires
+    mul-t13
+    word-at-requires
+    cast-fill
+    fill-requires
+    add-k
+    loop-less
+    loop-again
+    same-length
+    returns)

@@ -1,0 +1,239 @@
+// The plain method: every place, by shifted rows. A cell holds eight row bytes: cell 16 k + i is bits 64 k .. 64 k + 63 of
+// row i, and cell 16 k + 8 + i the same of its mask.
+use bits::ByteNo;
+use bits::Place;
+use bits::load;
+use matcher::Found;
+use matcher::Hop;
+use matcher::compare::Head;
+use rules::Method;
+ghost use mathlib.Core.Path.{_≡_};
+ghost use mathlib.Core.Bool.{true, false, cond};
+ghost use mathlib.Core.Logic.{_↔_};
+ghost use Prim.Native.Nat.{ℕ, _+_, _-_, _*_, _^_, _≤_, _<_, min};
+ghost use lib.Bits.{bitAnd};
+ghost use lib.Dec.{ltb, eqb};
+ghost use lib.ListN.{length, getD};
+ghost use Rattle.bits.specs.Packed.{bitOf};
+ghost use Rattle.rules.specs.Ranges.{every};
+ghost use Rattle.rules.specs.Occurrence.{places};
+ghost use Rattle.matcher.specs.Tables.{rowChunks, cellsFor, Prepared};
+ghost use Rattle.plain.specs.RowCells.{cellFits, shiftedBit, Filled};
+ghost use Rattle.matcher.specs.Progress.{textOf, patternOf, HeadOf, GoodPattern, Ready, Quiet, Stepped};
+
+// Ones where the 64 bits from bit 64 k on are the pattern's, zeros past its end.
+fn ones(m: u32, k: u32) -> u64
+    requires { ⌜ (m ≤ 2048) × (k ≤ 33) ⌝ }
+    ensures { λ r. ⌜ ((j : ℕ) → j < 64 → bitOf 64 r j ≡ cond (ltb (64 * k + j) m) 1 0) ⌝ }
+{
+    let all = 18446744073709551615u64;
+    if m <= 64 * k {
+        return 0;
+    }
+    if 64 * k + 64 <= m {
+        return all;
+    }
+    all << (64 * k + 64 - m)
+}
+
+// The 64 bits that begin i bits before those of x, where those of prev stand.
+fn shifted(prev: u64, x: u64, i: usize) -> u64
+    requires { ⌜ i < 8 ⌝ }
+    ensures { λ r. ⌜ ((j : ℕ) → j < 64 → bitOf 64 r j ≡ shiftedBit prev x i j) ⌝ }
+{
+    ((prev << (63 - i)) << 1) | (x >> i)
+}
+
+// The cells k of all rows and their masks, from the 64 bits that stand there unshifted and the 64 before them.
+fn fill(cells: &mut [u64], k: usize, prev: u64, x: u64, prev_mask: u64, mask: u64)
+    requires { ⌜ (k ≤ 33) × (16 * k + 16 ≤ length (now cells)) ⌝ }
+    ensures { λ _. ⌜ Filled k 8 prev x «prev_mask» mask (now (cells .entry)) (now (cells .exit)) ⌝ }
+{
+    let mut i = 0usize;
+    while i < 8 {
+        cells[16 * k + i] = shifted(prev, x, i);
+        cells[16 * k + 8 + i] = shifted(prev_mask, mask, i);
+        i += 1;
+    }
+}
+
+// Makes the rows and their masks.
+pub fn prepare(word: &[u8], m: u32, cells: &mut [u64])
+    requires { ⌜ GoodPattern Method.Plain (patternOf (now word) m) ⌝ }
+    requires { ⌜ cellsFor Method.Plain m ≤ length (now cells) ⌝ }
+    ensures { λ _. ⌜ Prepared Method.Plain (patternOf (now (word .entry)) m) (now (cells .entry)) (now (cells .exit)) ⌝ }
+{
+    let chunks = (m + 70) / 64;
+    let mut prev = 0u64;
+    let mut prev_mask = 0u64;
+    let mut k = 0u32;
+    while k < chunks {
+        let mask = ones(m, k);
+        let x = load::word_at(word, Place(64 * k)) & mask;
+        fill(cells, k as usize, prev, x, prev_mask, mask);
+        prev = x;
+        prev_mask = mask;
+        k += 1;
+    }
+}
+
+// The first row from `from` on whose first cell agrees with eight bytes of the text, or 8.
+fn first_row(cells: &[u64], bytes: u64, from: usize) -> usize
+    requires { ⌜ (16 ≤ length (now cells)) × (from ≤ 8) ⌝ }
+    ensures { λ r. ⌜ (from ≤ r) × (r ≤ 8) × ((i : ℕ) → from ≤ i → i < r → eqb (bitAnd bytes (getD (now (cells .entry)) (8 + i) 0)) (getD (now (cells .entry)) i 0) ≡ false) ⌝ }
+{
+    let mut i = from;
+    while i < 8 {
+        if bytes & cells[8 + i] == cells[i] {
+            return i;
+        }
+        i += 1;
+    }
+    8
+}
+
+// The first place from byte `from` on that the first cell of its row does not rule out, or one from limit on. Each load
+// serves the eight places of a byte.
+fn in_blocks(text: &[u8], cells: &[u64], from: ByteNo, limit: Place) -> Place
+    requires { ⌜ (16 ≤ length (now cells)) × (limit .0 ≤ 2 ^ 30 + 1) × (8 * from .0 ≤ limit .0 + 8) ⌝ }
+    ensures { λ r. ⌜ (8 * from .0 ≤ r .0) × (r .0 ≤ limit .0 + 8) × ((p : ℕ) → 8 * from .0 ≤ p → p < r .0 → cellFits (now (text .entry)) (now (cells .entry)) p 0 ≡ false) ⌝ }
+{
+    let end = limit.0 as usize;
+    let mut b = from.0;
+    while 8 * b < end {
+        let r = first_row(cells, load::word_at_byte(text, ByteNo(b)), 0);
+        if r < 8 {
+            return Place((8 * b + r) as u32);
+        }
+        b += 1;
+    }
+    Place((8 * b) as u32)
+}
+
+// The first place from s on that the first cell of its row does not rule out, or one from limit on.
+fn candidate(text: &[u8], cells: &[u64], s: Place, limit: Place) -> Place
+    requires { ⌜ (16 ≤ length (now cells)) × (limit .0 ≤ 2 ^ 30 + 1) × (s .0 < limit .0) ⌝ }
+    ensures { λ r. ⌜ (s .0 ≤ r .0) × (r .0 ≤ limit .0 + 8) × ((p : ℕ) → s .0 ≤ p → p < r .0 → cellFits (now (text .entry)) (now (cells .entry)) p 0 ≡ false) ⌝ }
+{
+    let at = s.0 as usize;
+    let b = at / 8;
+    let r = first_row(cells, load::word_at_byte(text, ByteNo(b)), at % 8);
+    if r < 8 {
+        return Place((8 * b + r) as u32);
+    }
+    in_blocks(text, cells, ByteNo(b + 1), limit)
+}
+
+// Whether the cells of the row from cell `from` on agree at place s.
+fn row_fits(text: &[u8], m: u32, cells: &[u64], s: Place, from: usize) -> bool
+    requires { ⌜ (m ≤ 2048) × (s .0 ≤ 2 ^ 30) × (16 * rowChunks m ≤ length (now cells)) ⌝ }
+    ensures { λ r. ⌜ (r ≡ true) ↔ ((k : ℕ) → from ≤ k → k < rowChunks m → cellFits (now (text .entry)) (now (cells .entry)) (s .0) k ≡ true) ⌝ }
+{
+    let chunks = ((m + 70) / 64) as usize;
+    let at = s.0 as usize;
+    let mut k = from;
+    while k < chunks {
+        let c = 16 * k + at % 8;
+        if load::word_at_byte(text, ByteNo(at / 8 + 8 * k)) & cells[c + 8] != cells[c] {
+            return false;
+        }
+        k += 1;
+    }
+    true
+}
+
+// The first place from s on and before limit at which the pattern stands, or limit.
+fn next_match(text: &[u8], m: u32, cells: &[u64], s: Place, limit: Place) -> Place
+    requires { ⌜ (0 < m) × (m ≤ 2048) × (16 * rowChunks m ≤ length (now cells)) × (limit .0 ≤ 2 ^ 30 + 1) × (s .0 ≤ limit .0) ⌝ }
+    ensures { λ r. ⌜ (s .0 ≤ r .0) × (r .0 ≤ limit .0) × ((p : ℕ) → s .0 ≤ p → p < r .0 → every (rowChunks m) (cellFits (now (text .entry)) (now (cells .entry)) p) ≡ false) ⌝ }
+{
+    let end = limit.0;
+    let mut at = s.0;
+    while at < end {
+        let c = candidate(text, cells, Place(at), limit);
+        if end <= c.0 {
+            return limit;
+        }
+        if row_fits(text, m, cells, c, 1) {
+            return c;
+        }
+        at = c.0 + 1;
+    }
+    limit
+}
+
+// As many places from s on as the budget has steps, and at most to `end`.
+fn reach(s: Place, end: Place, budget: u32) -> Place
+    requires { ⌜ s .0 ≤ end .0 ⌝ }
+    ensures { λ r. ⌜ r .0 ≡ min (s .0 + budget) (end .0) ⌝ }
+{
+    let at = s.0;
+    if budget < end.0 - at {
+        return Place(at + budget);
+    }
+    end
+}
+
+// Passes the places at which the pattern does not stand; each is one step.
+pub fn quiet(
+    text: &[u8],
+    n: u32,
+    word: &[u8],
+    m: u32,
+    h: Head,
+    cells: &[u64],
+    s: Place,
+    budget: u32,
+) -> Hop
+    requires { ⌜ Ready Method.Plain (textOf (now text) n) (patternOf (now word) m) (now cells) ⌝ }
+    requires { ⌜ HeadOf (patternOf (now word) m) (h .bits) (h .cut) ⌝ }
+    requires { ⌜ s .0 ≤ places (textOf (now text) n) (patternOf (now word) m) ⌝ }
+    ensures { λ r. ⌜ Quiet Method.Plain (textOf (now (text .entry)) n) (patternOf (now (word .entry)) m) (s .0) budget (r .at .0) (r .steps) ⌝ }
+{
+    let limit = reach(s, Place(n - m + 1), budget);
+    let at = next_match(text, m, cells, s, limit);
+    Hop {
+        at: at,
+        steps: at.0 - s.0,
+    }
+}
+
+// One step: the place s is written if the pattern stands there.
+pub fn step(
+    text: &[u8],
+    n: u32,
+    word: &[u8],
+    m: u32,
+    h: Head,
+    cells: &[u64],
+    s: Place,
+    list: &mut [u32],
+    had: usize,
+) -> Found
+    requires { ⌜ Ready Method.Plain (textOf (now text) n) (patternOf (now word) m) (now cells) ⌝ }
+    requires { ⌜ HeadOf (patternOf (now word) m) (h .bits) (h .cut) ⌝ }
+    requires { ⌜ (s .0 < places (textOf (now text) n) (patternOf (now word) m)) × (had ≤ length (now list)) ⌝ }
+    ensures { λ r. ⌜ Stepped Method.Plain (textOf (now (text .entry)) n) (patternOf (now (word .entry)) m) (s .0) (now (list .entry)) had (r .at .0) (r .hits) (r .full) (now (list .exit)) ⌝ }
+{
+    let at = s.0;
+    if row_fits(text, m, cells, s, 0) {
+        if list.len() <= had {
+            return Found {
+                at: s,
+                hits: had,
+                full: true,
+            };
+        }
+        list[had] = at;
+        return Found {
+            at: Place(at + 1),
+            hits: had + 1,
+            full: false,
+        };
+    }
+    Found {
+        at: Place(at + 1),
+        hits: had,
+        full: false,
+    }
+}

@@ -1,0 +1,77 @@
+// The four methods behind one small interface, chosen by `Method`: make the tables, pass over steps that find nothing,
+// make one step.
+use bits::Place;
+use matcher::Found;
+use matcher::Hop;
+use matcher::compare::Head;
+use rules::Method;
+ghost use Prim.Native.Nat.{_≤_, _<_};
+ghost use lib.ListN.{length};
+ghost use Rattle.rules.specs.Occurrence.{places};
+ghost use Rattle.matcher.specs.Tables.{cellsFor, Prepared};
+ghost use Rattle.matcher.specs.Progress.{textOf, patternOf, HeadOf, GoodPattern, Ready, Quiet, Stepped};
+
+// Makes the method's tables.
+pub fn prepare(method: Method, word: &[u8], m: u32, cells: &mut [u64])
+    requires { ⌜ GoodPattern method (patternOf (now word) m) ⌝ }
+    requires { ⌜ cellsFor method m ≤ length (now cells) ⌝ }
+    ensures { λ _. ⌜ Prepared method (patternOf (now (word .entry)) m) (now (cells .entry)) (now (cells .exit)) ⌝ }
+{
+    match method {
+        Method::Plain => plain::prepare(word, m, cells),
+        Method::Hash => hash::prepare(word, m, cells),
+        Method::Skip => skip::prepare(word, m, cells),
+        Method::Wide => wide::prepare(word, m, cells),
+    }
+}
+
+// Makes steps as long as they find nothing.
+pub fn quiet(
+    method: Method,
+    text: &[u8],
+    n: u32,
+    word: &[u8],
+    m: u32,
+    h: Head,
+    cells: &[u64],
+    s: Place,
+    budget: u32,
+) -> Hop
+    requires { ⌜ Ready method (textOf (now text) n) (patternOf (now word) m) (now cells) ⌝ }
+    requires { ⌜ HeadOf (patternOf (now word) m) (h .bits) (h .cut) ⌝ }
+    requires { ⌜ s .0 ≤ places (textOf (now text) n) (patternOf (now word) m) ⌝ }
+    ensures { λ r. ⌜ Quiet method (textOf (now (text .entry)) n) (patternOf (now (word .entry)) m) (s .0) budget (r .at .0) (r .steps) ⌝ }
+{
+    match method {
+        Method::Plain => plain::quiet(text, n, word, m, h, cells, s, budget),
+        Method::Hash => hash::quiet(text, n, word, m, h, cells, s, budget),
+        Method::Skip => skip::quiet(text, n, word, m, h, cells, s, budget),
+        Method::Wide => wide::quiet(text, n, word, m, h, cells, s, budget),
+    }
+}
+
+// Makes one step.
+pub fn step(
+    method: Method,
+    text: &[u8],
+    n: u32,
+    word: &[u8],
+    m: u32,
+    h: Head,
+    cells: &[u64],
+    s: Place,
+    list: &mut [u32],
+    had: usize,
+) -> Found
+    requires { ⌜ Ready method (textOf (now text) n) (patternOf (now word) m) (now cells) ⌝ }
+    requires { ⌜ HeadOf (patternOf (now word) m) (h .bits) (h .cut) ⌝ }
+    requires { ⌜ (s .0 < places (textOf (now text) n) (patternOf (now word) m)) × (had ≤ length (now list)) ⌝ }
+    ensures { λ r. ⌜ Stepped method (textOf (now (text .entry)) n) (patternOf (now (word .entry)) m) (s .0) (now (list .entry)) had (r .at .0) (r .hits) (r .full) (now (list .exit)) ⌝ }
+{
+    match method {
+        Method::Plain => plain::step(text, n, word, m, h, cells, s, list, had),
+        Method::Hash => hash::step(text, n, word, m, h, cells, s, list, had),
+        Method::Skip => skip::step(text, n, word, m, h, cells, s, list, had),
+        Method::Wide => wide::step(text, n, word, m, h, cells, s, list, had),
+    }
+}

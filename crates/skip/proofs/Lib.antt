@@ -1,0 +1,4 @@
+-- The laws of the skip method's tables and steps.
+pub mod SkipChain
+pub mod SkipFilling
+pub mod SkipStep

@@ -1,0 +1,131 @@
+-- Laws of a step of the skip method: the places that it finds are the occurrences up to 8 b + 1, one after the other.
+-- Assumes nothing.
+use Prim.Native.Nat.{ℕ, _+_, _-_, _*_, _/_, _≤_, _<_, min}
+use mathlib.Core.Path.{_≡_, refl, sym, ap, _∙_}
+use mathlib.Core.Bool.{Bool, true, false}
+use mathlib.Core.List.{List, [], _∷_, _++_}
+use native.Mathlib.Nat.{sub-zero}
+use native.Mathlib.Omega.{arith}
+use borrow.Author.Tests.{lt-ltb, ltb-false}
+use lib.Dec.{ltb}
+use lib.ListN.{length, set, length-append}
+use Rattle.bits.specs.Packed.{Packed}
+use Rattle.rules.specs.declared.Method.the-variants.{Skip}
+use Rattle.rules.specs.Ranges.{keep}
+use Rattle.rules.specs.Pattern.{Pattern}
+use Rattle.rules.specs.Occurrence.{places, matches, occurs, occurrences}
+use Rattle.rules.specs.Skip.{lastByte, skipFinds}
+use Rattle.rules.specs.Step.{finds, ahead, next}
+use Rattle.matcher.specs.Tables.{lastShown}
+use Rattle.matcher.specs.Progress.{textOf, Reaches, Stepped}
+use Rattle.rules.proofs.Ranges.{among-same}
+use Rattle.rules.proofs.Occurrence.{occurs-inside, occurrences-append, occurrences-one}
+use Rattle.matcher.proofs.Progress.{reaches-quiet, reaches-join}
+use Rattle.matcher.proofs.Writing.{Writing, writing-more, writing-length, stepped-whole, stepped-full}
+use Rattle.rules.proofs.Skip.{reaches-byte, contains-byte, shown-occurs}
+use Rattle.skip.proofs.SkipChain.{shown-lower, byteOf, walk-start}
+
+module _ (t : Packed) (w : Pattern) where
+  -- the occurrences from s to e, from an occurrence a among them on
+  pub occurrences-at : (s a e : ℕ) → s ≤ a → a < e → occurs t w a ≡ true
+      → occurrences t w s e ≡ occurrences t w s a ++ a ∷ occurrences t w (a + 1) e
+  occurrences-at s a e l h o =
+      occurrences-append t w s a e l (omega arith)
+      ∙ ap (λ (r : List ℕ). occurrences t w s a ++ r)
+      (occurrences-append t w a (a + 1) e (omega arith) (omega arith)
+      ∙ ap (λ (r : List ℕ). r ++ occurrences t w (a + 1) e) (occurrences-one t w a ∙ ap (λ (x : Bool). keep x a []) o))
+
+  module _ (s : ℕ) (long : 15 ≤ w .count) where
+    pub skip-finds-are : finds Skip t w s ≡ occurrences t w s (8 * lastByte w s + 1)
+    unfolding finds skipFinds occurrences
+    skip-finds-are = among-same _ _ s _ (λ a l u. shown-occurs t w s long a l (omega (arith, reaches-byte w s long)))
+
+    pub skip-next-is : next Skip t w s ≡ min (8 * lastByte w s + 1) (places t w)
+    unfolding next ahead
+    skip-next-is = refl
+
+    -- no index of the step's places shows the byte
+    pub empty-chain : lastShown w (byteOf t w (lastByte w s)) (8 * lastByte w s + 1 - s) ≡ 0 → occurrences t w s (8 * lastByte w s + 1) ≡ []
+    empty-chain e =
+        let low = reaches-byte w s long in
+        rw (sub-zero (8 * lastByte w s + 1)) at
+        (walk-start t w (lastByte w s) s 0 (contains-byte w s long s (omega arith) low) (omega arith) (sym e))
+
+    -- no index at all shows it
+    pub no-head : lastShown w (byteOf t w (lastByte w s)) (w .count - 7) ≡ 0 → occurrences t w s (8 * lastByte w s + 1) ≡ []
+    no-head e =
+        let low = reaches-byte w s long in
+        empty-chain
+        (shown-lower w (byteOf t w (lastByte w s)) (w .count - 7) (8 * lastByte w s + 1 - s) (omega arith)
+        (omega (arith, contains-byte w s long s (omega arith) low))
+        ∙ e)
+
+  -- a step more that finds nothing
+  pub quiet-more : (s p k q : ℕ) → 15 ≤ w .count → Reaches Skip t w s k [] p → p < places t w
+      → occurrences t w p (8 * lastByte w p + 1) ≡ [] → q ≡ min (8 * lastByte w p + 1) (places t w) → Reaches Skip t w s (k + 1) [] q
+  quiet-more s p k q long f h e there =
+      rw there (rw (skip-next-is p long) at (reaches-quiet Skip t w s p k f h (skip-finds-are p long ∙ e)))
+
+  -- two parts that find nothing
+  pub quiet-join : (s p q i j k : ℕ) → Reaches Skip t w s j [] p → Reaches Skip t w p k [] q → i ≡ j + k → Reaches Skip t w s i [] q
+  quiet-join s p q i j k f g e = rw e (reaches-join Skip t w s p q j k [] [] f g)
+
+  module _ (s : ℕ) (before : List ℕ) (had : ℕ) (list : List ℕ) (hits a : ℕ) (u : Writing before had (occurrences t w s a) list hits) where
+    -- a is written, and nothing is found before q
+    pub written-more : (q : ℕ) → occurrences t w s q ≡ occurrences t w s a ++ a ∷ [] → hits < length list
+        → Writing before had (occurrences t w s q) (set list hits a) (hits + 1)
+    written-more q e h =
+        let size = writing-length before had (occurrences t w s a) list hits u in
+        rw e (writing-more before had (occurrences t w s a) list hits a u (omega arith))
+
+    -- a finds no cell
+    pub skip-full : 15 ≤ w .count → had ≤ length before → s ≤ a → a < 8 * lastByte w s + 1 → occurs t w a ≡ true → length list ≤ hits
+        → Stepped Skip t w s before had a hits true list
+    skip-full long room l h o out =
+        let size = writing-length before had (occurrences t w s a) list hits u in
+        let all : hits ≡ length before = omega (arith, u .fits) in
+        rw all
+        (stepped-full Skip t w s before had (occurrences t w s a) (occurrences t w (a + 1) (8 * lastByte w s + 1)) list a room
+        (skip-finds-are s long ∙ occurrences-at s a (8 * lastByte w s + 1) l h o)
+        (rw all at u))
+
+    -- no place is left
+    pub skip-whole : (q : ℕ) → 15 ≤ w .count → occurrences t w s a ≡ occurrences t w s (8 * lastByte w s + 1)
+        → q ≡ min (8 * lastByte w s + 1) (places t w) → Stepped Skip t w s before had q hits false list
+    skip-whole q long e there =
+        rw (there ∙ sym (skip-next-is s long))
+        (stepped-whole Skip t w s before had list hits (rw (skip-finds-are s long ∙ sym e) u))
+
+  -- an occurrence among those from p to e
+  pub some-occurrence : (p a e : ℕ) → p ≤ a → a < e → occurs t w a ≡ true → ltb 0 (length (occurrences t w p e)) ≡ true
+  some-occurrence p a e l h o =
+      let parts : length (occurrences t w p e) ≡ length (occurrences t w p a) + length (a ∷ occurrences t w (a + 1) e)
+      = ap length (occurrences-at p a e l h o) ∙ length-append (occurrences t w p a) (a ∷ occurrences t w (a + 1) e) in
+      lt-ltb 0 (length (occurrences t w p e)) (omega arith)
+
+  -- no occurrence is left, in two parts
+  pub none-in-parts : (p q e : ℕ) → p ≤ q → q ≤ e → occurrences t w p q ≡ [] → ltb 0 (length (occurrences t w q e)) ≡ false → occurrences t w p e ≡ []
+  none-in-parts p q e l h none rest =
+      occurrences-append t w p q e l h ∙ ap (λ (r : List ℕ). r ++ occurrences t w q e) none ∙ nothing (occurrences t w q e) (ltb-false _ _ rest)
+    where
+      nothing : (r : List ℕ) → length r ≤ 0 → r ≡ []
+      nothing [] z = refl
+      nothing (x ∷ r) z = absurd (omega arith)
+
+-- how far the places of a step reach: the index of each fits into the pattern
+pub span-fits : (s m : ℕ) → 15 ≤ m → 8 * ((s + m) / 8 - 1) + 1 - s + 7 ≤ m
+span-fits s m long = omega arith
+
+-- a link j of a walk over the places p to 8 b, and the links that are not above `over` lie from E on
+module _ (n m b p j over : ℕ) (fits : m ≤ n) (is : over ≡ 8 * b + 1 - (n - m + 1)) (up : j + p ≤ 8 * b + 1) where
+  pub link-inside : over < j → 8 * b + 1 - j < 1 + n - m
+  link-inside h = omega arith
+
+  pub link-outside : j ≤ over → j ≤ 8 * b + 1 - (1 + n - m)
+  link-outside h = omega arith
+
+-- what a comparison at a place below E says
+pub compared : (bytes : List ℕ) (n : ℕ) (w : Pattern) (a : ℕ) → a < places (textOf bytes n) w
+    → matches (textOf bytes 0) w a ≡ occurs (textOf bytes n) w a
+unfolding matches
+compared bytes n w a h = sym (occurs-inside (textOf bytes n) w a h)

@@ -1,0 +1,76 @@
+-- `skip::below` meets its contract. The loop's invariant: the walk along the chain has not left out an index
+-- below the bound.
+-- Assumes nothing.
+use Prim.Native.Nat.{_+_, _≤_}
+use native.Mathlib.Omega.{arith}
+use denote.Ref.{now}
+use Rattle.matcher.specs.Progress.{patternOf}
+use Rattle.skip.proofs.SkipChain.{Headed, headed-first, headed-within, headed-less, headed-more, headed-done}
+use Rattle.skip.proofs.below.Statement.{statement}
+use Rattle.skip.proofs.below.Tie as tie
+
+abbrev Inv-loop : tie.InvT-loop
+Inv-loop word m cells v k high j₀ j = Headed (patternOf word m) v k j
+
+abbrev μ-loop : tie.MeasureT-loop
+μ-loop word m cells v k high j₀ j = j
+
+near : (c : tie.In-loop Inv-loop μ-loop) → c .before .loop .j + 7 ≤ c .before .before .before .args .m
+near c =
+    let a = c .before .before .before .args in
+    let l = c .before .loop in
+    headed-within (patternOf (now (a .word)) (a .m)) (now (a .cells)) (c .before .before .before .pre .0) (a .v) (a .k) (l .j) (l .inv)
+
+mul-j : tie.Need-mul-j Inv-loop μ-loop
+mul-j c = omega arith
+
+shared-slice-read-j : tie.Need-shared-slice-read-j Inv-loop μ-loop
+shared-slice-read-j c = omega arith
+
+loop-holds : tie.Need-loop-holds Inv-loop μ-loop
+loop-holds c =
+    let a = c .before .args in
+    headed-first (patternOf (now (a .word)) (a .m)) (now (a .cells)) (c .before .pre .0) (a .v) (a .k) (omega arith) (omega arith)
+
+add-j : tie.Need-add-j Inv-loop μ-loop
+add-j c = omega (arith, near c)
+
+mul-j-2 : tie.Need-mul-j-2 Inv-loop μ-loop
+mul-j-2 c = omega (arith, near c)
+
+shared-slice-read-j-2 : tie.Need-shared-slice-read-j-2 Inv-loop μ-loop
+shared-slice-read-j-2 c = omega (arith, near (c .before))
+
+loop-less : tie.Need-loop-less Inv-loop μ-loop
+loop-less c =
+    let a = c .before .before .before .before .args in
+    let l = c .before .before .loop in
+    headed-less (patternOf (now (a .word)) (a .m)) (now (a .cells)) (c .before .before .before .before .pre .0) (a .v) (a .k) (l .j) (l .inv) (omega arith)
+
+loop-again : tie.Need-loop-again Inv-loop μ-loop
+loop-again c =
+    let a = c .before .before .before .before .args in
+    let l = c .before .before .loop in
+    headed-more (patternOf (now (a .word)) (a .m)) (now (a .cells)) (c .before .before .before .before .pre .0) (a .v) (a .k) (l .j) (l .inv) (c .before .loop-test .taken)
+
+returns : tie.Need-returns Inv-loop μ-loop
+returns c =
+    let a = c .before .before .before .args in
+    let l = c .before .loop in
+    headed-done (patternOf (now (a .word)) (a .m)) (now (a .cells)) (c .before .before .before .pre .0) (a .v) (a .k) (l .j) (l .inv) (c .loop-test .left)
+
+pub below-spec : {M : Type 1} → statement M
+below-spec =
+    tie.close
+    (tie.spec
+    Inv-loop
+    μ-loop
+    mul-j
+    shared-slice-read-j
+    loop-holds
+    add-j
+    mul-j-2
+    shared-slice-read-j-2
+    loop-less
+    loop-again
+    returns)

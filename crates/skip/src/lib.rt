@@ -1,0 +1,244 @@
+// The skip method: one whole byte of the text decides many places. Cell B, below 256, is the head of the chain of the
+// pattern's indices that show the byte B, highest first; cell 256 + j is the link behind index j. Head and link are one
+// more than an index, and 0 ends the chain.
+use bits::ByteNo;
+use bits::Place;
+use bits::load;
+use matcher::Found;
+use matcher::Hop;
+use matcher::compare;
+use matcher::compare::Head;
+use rules::Method;
+ghost use mathlib.Core.Path.{_≡_};
+ghost use mathlib.Core.List.{_++_};
+ghost use Prim.Native.Nat.{_+_, _-_, _*_, _≤_, _<_, min};
+ghost use lib.Dec.{ltb};
+ghost use lib.ListN.{length, drop, replicate};
+ghost use Rattle.bits.specs.Packed.{bitsAt};
+ghost use Rattle.rules.specs.Occurrence.{places, occurrences};
+ghost use Rattle.rules.specs.Skip.{lastByte};
+ghost use Rattle.matcher.specs.Tables.{cellsFor, lastShown, SkipTables, Prepared};
+ghost use Rattle.matcher.specs.Progress.{textOf, patternOf, HeadOf, GoodPattern, Ready, Quiet, Stepped};
+
+// Where steps over empty chains end: the mark, the steps made, and the link with which the mark's chain begins, or 0 where
+// no step is due.
+struct Halt {
+    at: Place,
+    steps: u32,
+    link: u64,
+}
+
+// Every chain empty.
+fn clear(cells: &mut [u64])
+    requires { ⌜ 256 ≤ length (now cells) ⌝ }
+    ensures { λ _. ⌜ now (cells .exit) ≡ replicate 256 0 ++ drop 256 (now (cells .entry)) ⌝ }
+{
+    let mut i = 0usize;
+    while i < 256 {
+        cells[i] = 0;
+        i += 1;
+    }
+}
+
+// Enters the indices 0 to m - 8, each at the head of its chain.
+pub fn prepare(word: &[u8], m: u32, cells: &mut [u64])
+    requires { ⌜ GoodPattern Method.Skip (patternOf (now word) m) ⌝ }
+    requires { ⌜ cellsFor Method.Skip m ≤ length (now cells) ⌝ }
+    ensures { λ _. ⌜ Prepared Method.Skip (patternOf (now (word .entry)) m) (now (cells .entry)) (now (cells .exit)) ⌝ }
+{
+    clear(cells);
+    let mut j = 0u32;
+    while j + 7 < m {
+        let v = load::byte_at(word, Place(j));
+        let k = j as usize;
+        cells[256 + k] = cells[v as usize];
+        cells[v as usize] = (j + 1) as u64;
+        j += 1;
+    }
+}
+
+// The head of v's chain without the indices from k on.
+fn below(word: &[u8], m: u32, cells: &[u64], v: u8, k: u32) -> u64
+    requires { ⌜ SkipTables (patternOf (now word) m) (now cells) ⌝ }
+    requires { ⌜ (256 + m ≤ length (now cells)) × (k + 7 ≤ m) ⌝ }
+    ensures { λ r. ⌜ r ≡ lastShown (patternOf (now (word .entry)) m) v k ⌝ }
+{
+    let high = k as u64;
+    let mut j = cells[v as usize];
+    while high < j {
+        j = cells[(255 + j) as usize];
+    }
+    j
+}
+
+// By how much a mark lies over the number of places.
+fn over(mark: u32, end: u32) -> u32
+    ensures { λ r. ⌜ r ≡ mark - end ⌝ }
+{
+    if end < mark { mark - end } else { 0 }
+}
+
+// Whether the pattern stands at a place of byte b's chain, from the link on; the place of a link j is 8 b + 1 - j.
+fn stands(
+    text: &[u8],
+    n: u32,
+    word: &[u8],
+    m: u32,
+    h: Head,
+    cells: &[u64],
+    b: ByteNo,
+    link: u64,
+) -> bool
+    requires { ⌜ Ready Method.Skip (textOf (now text) n) (patternOf (now word) m) (now cells) ⌝ }
+    requires { ⌜ HeadOf (patternOf (now word) m) (h .bits) (h .cut) ⌝ }
+    requires { ⌜ (8 * b .0 + 8 ≤ n) × (link ≤ 8 * b .0 + 1) × (link + 7 ≤ m) ⌝ }
+    requires { ⌜ lastShown (patternOf (now word) m) (bitsAt (now text) (8 * b .0) 8) link ≡ link ⌝ }
+    ensures { λ r. ⌜ r ≡ ltb 0 (length (occurrences (textOf (now (text .entry)) n) (patternOf (now (word .entry)) m) (8 * b .0 + 1 - link) (8 * b .0 + 1))) ⌝ }
+{
+    let byte = b.0;
+    let top = (8 * byte + 1) as u32;
+    let low = over(top, n - m + 1);
+    let mut j = link;
+    while (low as u64) < j {
+        if compare::same(text, word, m, h, Place((top as u64 - j) as u32)) {
+            return true;
+        }
+        j = cells[(255 + j) as usize];
+    }
+    false
+}
+
+// A mark cut down to the number of places.
+fn cut(mark: u32, end: u32) -> u32
+    ensures { λ r. ⌜ r ≡ min mark end ⌝ }
+{
+    if mark < end { mark } else { end }
+}
+
+// Steps whose byte the pattern shows at none of their places. From the mark 8 b + 1 on, the byte is b + (m + 1) / 8 - 1.
+// Where a link is given, a step is due, and the link heads the chain of its places.
+fn pass(text: &[u8], n: u32, word: &[u8], m: u32, cells: &[u64], s: Place, budget: u32) -> Halt
+    requires { ⌜ Ready Method.Skip (textOf (now text) n) (patternOf (now word) m) (now cells) ⌝ }
+    requires { ⌜ s .0 ≤ places (textOf (now text) n) (patternOf (now word) m) ⌝ }
+    ensures { λ r. ⌜ Quiet Method.Skip (textOf (now (text .entry)) n) (patternOf (now (word .entry)) m) (s .0) budget (r .at .0) (r .steps) ⌝ }
+    ensures { λ r. ⌜ (0 < r .link → (r .at .0 < places (textOf (now (text .entry)) n) (patternOf (now (word .entry)) m)) × (r .steps < budget)
+        × (r .link ≡ lastShown (patternOf (now (word .entry)) m) (bitsAt (now (text .entry)) (8 * lastByte (patternOf (now (word .entry)) m) (r .at .0)) 8) (8 * lastByte (patternOf (now (word .entry)) m) (r .at .0) + 1 - r .at .0))) ⌝ }
+{
+    let end = n - m + 1;
+    let stride = (m + 1) / 8 - 1;
+    let mut at = s.0;
+    let mut b = (at + m) / 8 - 1;
+    let mut steps = 0u32;
+    while at < end && steps < budget {
+        let v = text[b as usize];
+        if cells[v as usize] != 0 {
+            let link = below(word, m, cells, v, 8 * b + 1 - at);
+            if link != 0 {
+                return Halt {
+                    at: Place(at),
+                    steps: steps,
+                    link: link,
+                };
+            }
+        }
+        at = 8 * b + 1;
+        b += stride;
+        steps += 1;
+    }
+    Halt {
+        at: Place(cut(at, end)),
+        steps: steps,
+        link: 0,
+    }
+}
+
+// Steps as long as they find nothing: over empty chains by `pass`, and over a chain at none of whose places the pattern
+// stands.
+pub fn quiet(
+    text: &[u8],
+    n: u32,
+    word: &[u8],
+    m: u32,
+    h: Head,
+    cells: &[u64],
+    s: Place,
+    budget: u32,
+) -> Hop
+    requires { ⌜ Ready Method.Skip (textOf (now text) n) (patternOf (now word) m) (now cells) ⌝ }
+    requires { ⌜ HeadOf (patternOf (now word) m) (h .bits) (h .cut) ⌝ }
+    requires { ⌜ s .0 ≤ places (textOf (now text) n) (patternOf (now word) m) ⌝ }
+    ensures { λ r. ⌜ Quiet Method.Skip (textOf (now (text .entry)) n) (patternOf (now (word .entry)) m) (s .0) budget (r .at .0) (r .steps) ⌝ }
+{
+    let end = n - m + 1;
+    let mut at = s.0;
+    let mut steps = 0u32;
+    loop {
+        let halt = pass(text, n, word, m, cells, Place(at), budget - steps);
+        let there = halt.at;
+        at = there.0;
+        steps += halt.steps;
+        let link = halt.link;
+        if link == 0 {
+            return Hop {
+                at: Place(at),
+                steps: steps,
+            };
+        }
+        let b = (at + m) / 8 - 1;
+        if stands(text, n, word, m, h, cells, ByteNo(b as usize), link) {
+            return Hop {
+                at: Place(at),
+                steps: steps,
+            };
+        }
+        at = cut(8 * b + 1, end);
+        steps += 1;
+    }
+}
+
+// One step: the places of the chain from the mark on, rising, each compared.
+pub fn step(
+    text: &[u8],
+    n: u32,
+    word: &[u8],
+    m: u32,
+    h: Head,
+    cells: &[u64],
+    s: Place,
+    list: &mut [u32],
+    had: usize,
+) -> Found
+    requires { ⌜ Ready Method.Skip (textOf (now text) n) (patternOf (now word) m) (now cells) ⌝ }
+    requires { ⌜ HeadOf (patternOf (now word) m) (h .bits) (h .cut) ⌝ }
+    requires { ⌜ (s .0 < places (textOf (now text) n) (patternOf (now word) m)) × (had ≤ length (now list)) ⌝ }
+    ensures { λ r. ⌜ Stepped Method.Skip (textOf (now (text .entry)) n) (patternOf (now (word .entry)) m) (s .0) (now (list .entry)) had (r .at .0) (r .hits) (r .full) (now (list .exit)) ⌝ }
+{
+    let at = s.0;
+    let end = n - m + 1;
+    let b = (at + m) / 8 - 1;
+    let top = 8 * b + 1;
+    let low = over(top, end);
+    let v = text[b as usize];
+    let mut j = below(word, m, cells, v, top - at);
+    let mut hits = had;
+    while (low as u64) < j {
+        let a = (top as u64 - j) as u32;
+        if compare::same(text, word, m, h, Place(a)) {
+            if list.len() <= hits {
+                return Found {
+                    at: Place(a),
+                    hits: hits,
+                    full: true,
+                };
+            }
+            list[hits] = a;
+            hits += 1;
+        }
+        j = cells[(255 + j) as usize];
+    }
+    Found {
+        at: Place(cut(top, end)),
+        hits: hits,
+        full: false,
+    }
+}

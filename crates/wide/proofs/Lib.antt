@@ -1,0 +1,4 @@
+-- The laws of the wide method's tables and steps.
+pub mod WideTables
+pub mod WideMoves
+pub mod WideFlags
