@@ -33,10 +33,14 @@ unfoldable pub lastShown : Pattern → ℕ → ℕ → ℕ
 lastShown w B zero = 0
 lastShown w B (suc k) = cond (eqb (bitsAt (w .bytes) k 8) B) (suc k) (lastShown w B k)
 
+-- skip: a step from a mark 8 b + 1 has so many places, and the chains hold as many indices
+unfoldable pub chained : ℕ → ℕ
+chained m = (m + 1) / 8 * 8 - 8
+
 -- skip: in cell B the head of the chain of the indices that show B, highest first; in cell 256 + j the index after j
 pub record SkipTables (w : Pattern) (cells : List ℕ) : Type 0 where
-  pub head-is : (B : ℕ) → B < 256 → getD cells B 0 ≡ lastShown w B (w .count - 7)
-  pub link-is : (j : ℕ) → j < w .count - 7 → getD cells (256 + j) 0 ≡ lastShown w (bitsAt (w .bytes) j 8) j
+  pub head-is : (B : ℕ) → B < 256 → getD cells B 0 ≡ lastShown w B (chained (w .count))
+  pub link-is : (j : ℕ) → j < chained (w .count) → getD cells (256 + j) 0 ≡ lastShown w (bitsAt (w .bytes) j 8) j
 
 -- the window bit q, being c, leaves flag i standing: q − i is no index of the pattern, or its bit there is c
 unfoldable pub passes : Pattern → ℕ → ℕ → ℕ → Bool

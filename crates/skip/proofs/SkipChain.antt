@@ -1,7 +1,7 @@
 -- Laws of the chains of the skip method: what a head and a link say of the pattern's indices, and what a walk along a chain
 -- says of the places that contain the byte.
 -- Assumes nothing.
-use Prim.Native.Nat.{ℕ, zero, suc, _+_, _-_, _*_, _≤_, _<_}
+use Prim.Native.Nat.{ℕ, zero, suc, _+_, _-_, _*_, _/_, _%_, _≤_, _<_}
 use mathlib.Core.Path.{_≡_, refl, sym, ap, ap₂, _∙_}
 use mathlib.Core.Logic.{inl, inr}
 use mathlib.Core.Bool.{Bool, true, false, cond}
@@ -17,13 +17,32 @@ use Rattle.bits.proofs.Loads.{byte-bits}
 use Rattle.rules.specs.Ranges.{keep}
 use Rattle.rules.specs.Pattern.{Pattern}
 use Rattle.rules.specs.Occurrence.{places, matches, occurs, occurrences}
-use Rattle.matcher.specs.Tables.{lastShown, SkipTables}
+use Rattle.matcher.specs.Tables.{chained, lastShown, SkipTables}
 use Rattle.rules.proofs.Ranges.{and-right, not-true-false, eq-or-below}
 use Rattle.rules.proofs.Occurrence.{occurrences-append, occurrences-none, occurrences-one, occurrences-further, none-from-places}
 use Rattle.matcher.proofs.Chunks.{chunk-differs}
 
 clash : (b : Bool) → b ≡ true → b ≡ false → ⊥
 clash b p q = let z : _≡_ {A = ℕ} 0 1 = cc in omega arith
+
+-- how many indices are chained
+pub chained-is : (m : ℕ) → chained m ≡ (m + 1) / 8 * 8 - 8
+unfolding chained
+chained-is m = refl
+
+-- each of them fits into the pattern
+pub chained-fits : (m : ℕ) → 15 ≤ m → chained m + 7 ≤ m
+unfolding chained
+chained-fits m long = omega arith
+
+pub chained-le : (m : ℕ) → chained m ≤ m
+unfolding chained
+chained-le m = omega arith
+
+-- they are those of a step from a mark 8 b + 1
+pub chained-span : (s m : ℕ) → s % 8 ≡ 1 → 15 ≤ m → 8 * ((s + m) / 8 - 1) + 1 - s ≡ chained m
+unfolding chained
+chained-span s m e long = omega arith
 
 module _ (w : Pattern) (B : ℕ) where
   -- the last index below k + 1 that shows B, by whether k does
@@ -91,7 +110,7 @@ module _ (w : Pattern) (B : ℕ) where
       rw e (shown-lower k (lastShown w B k) (omega arith) (u .within))
 
 -- a link read from the tables: the head of the chain below the index before
-pub link-at : (w : Pattern) (cells : List ℕ) → SkipTables w cells → (B k j : ℕ) → j ≡ lastShown w B k → k + 7 ≤ w .count → 0 < j
+pub link-at : (w : Pattern) (cells : List ℕ) → SkipTables w cells → (B k j : ℕ) → j ≡ lastShown w B k → k ≤ chained (w .count) → 0 < j
     → getD cells (255 + j) 0 ≡ lastShown w B (j - 1)
 link-at w cells tables B k j e h g =
     let u = shown-is w B k in
@@ -106,18 +125,18 @@ pub record Headed (w : Pattern) (B h j : ℕ) : Type 0 where
   pub bound : ℕ
   pub chain : j ≡ lastShown w B bound
   pub over : h ≤ bound
-  pub within : bound + 7 ≤ w .count
+  pub within : bound ≤ chained (w .count)
 
 module _ (w : Pattern) (cells : List ℕ) (tables : SkipTables w cells) (B h : ℕ) where
-  pub headed-first : B < 256 → h + 7 ≤ w .count → Headed w B h (getD cells B 0)
+  pub headed-first : B < 256 → h ≤ chained (w .count) → Headed w B h (getD cells B 0)
   headed-first l fits =
-      record { bound = w .count - 7; chain = tables .head-is B l; over = omega arith; within = omega arith }
+      record { bound = chained (w .count); chain = tables .head-is B l; over = omega arith; within = omega arith }
 
-  pub headed-own : (j : ℕ) → lastShown w B j ≡ j → h ≤ j → j + 7 ≤ w .count → Headed w B h j
+  pub headed-own : (j : ℕ) → lastShown w B j ≡ j → h ≤ j → j ≤ chained (w .count) → Headed w B h j
   headed-own j e l fits = record { bound = j; chain = sym e; over = l; within = fits }
 
   module _ (j : ℕ) (k : Headed w B h j) where
-    pub headed-within : j + 7 ≤ w .count
+    pub headed-within : j ≤ chained (w .count)
     headed-within = omega (arith, k .chain, k .within, shown-is w B (k .bound) .within)
 
     pub headed-link : 0 < j → getD cells (255 + j) 0 ≡ lastShown w B (j - 1)
@@ -152,8 +171,9 @@ module _ (t : Packed) (w : Pattern) (b : ℕ) where
       let there : a + (8 * b - a) ≡ 8 * b = omega arith in
       not-matching t w a (chunk-differs t w a (8 * b - a) 8 (omega arith) (λ e. ne (sym (rw there at e))))
 
-  -- between the place of index k - 1 and that of the next link below there is no occurrence
-  pub chain-gap : (k i : ℕ) → i ≡ lastShown w byteOf k → k ≤ 8 * b + 1 → k + 7 ≤ w .count
+  -- between the place of index k - 1 and that of a link i there is no occurrence, where the last index that shows the byte
+  -- is not from the link on
+  pub chain-gap : (k i : ℕ) → lastShown w byteOf k ≤ i → k ≤ 8 * b + 1 → k + 7 ≤ w .count
       → occurrences t w (8 * b + 1 - k) (8 * b + 1 - i) ≡ []
   chain-gap k i e l h =
       let u = shown-is w byteOf k in
@@ -161,34 +181,31 @@ module _ (t : Packed) (w : Pattern) (b : ℕ) where
       (λ q g z. not-shown q (omega arith) (omega arith) (u .none (8 * b - q) (omega arith) (omega arith)))
 
   module _ (p j : ℕ) (fits : 8 * b + 8 ≤ p + w .count) (low : j + p ≤ 8 * b + 1) where
-    -- a walk along the chain begins with the head for p: no occurrence is passed over
-    pub walk-start : j ≡ lastShown w byteOf (8 * b + 1 - p) → occurrences t w p (8 * b + 1 - j) ≡ []
+    -- a walk over the places from p on begins with the link j: no occurrence is passed over
+    pub walk-start : lastShown w byteOf (8 * b + 1 - p) ≤ j → occurrences t w p (8 * b + 1 - j) ≡ []
     walk-start e =
         let here : 8 * b + 1 - (8 * b + 1 - p) ≡ p = omega arith in
         rw here at (chain-gap (8 * b + 1 - p) j e (omega arith) (omega arith))
 
-    -- it goes on to the next link: the link's place may be an occurrence, and none between
-    pub walk-on : (i : ℕ) → 0 < j → i ≡ lastShown w byteOf (j - 1)
-        → occurrences t w p (8 * b + 1 - i) ≡ occurrences t w p (8 * b + 1 - j) ++ keep (occurs t w (8 * b + 1 - j)) (8 * b + 1 - j) []
-    walk-on i g e =
-        let within : i ≤ j - 1 = omega (arith, shown-is w byteOf (j - 1) .within) in
-        let behind : 8 * b + 1 - (j - 1) ≡ 8 * b + 1 - j + 1 = omega arith in
-        let gap : occurrences t w (8 * b + 1 - j + 1) (8 * b + 1 - i) ≡ [] = rw behind at (chain-gap (j - 1) i e (omega arith) (omega arith)) in
-        occurrences-append t w p (8 * b + 1 - j) (8 * b + 1 - i) (omega arith) (omega arith)
-        ∙ ap (λ (r : List ℕ). occurrences t w p (8 * b + 1 - j) ++ r)
-        (occurrences-append t w (8 * b + 1 - j) (8 * b + 1 - j + 1) (8 * b + 1 - i) (omega arith) (omega arith)
-        ∙ ap₂ (λ (x y : List ℕ). x ++ y) (occurrences-one t w (8 * b + 1 - j)) gap
-        ∙ append-nil _)
+    module _ (i : ℕ) (less : i < j) (next : lastShown w byteOf (j - 1) ≤ i) where
+      -- it goes on to the link i: the place of j may be an occurrence, and none between
+      pub walk-on : occurrences t w p (8 * b + 1 - i) ≡ occurrences t w p (8 * b + 1 - j) ++ keep (occurs t w (8 * b + 1 - j)) (8 * b + 1 - j) []
+      walk-on =
+          let behind : 8 * b + 1 - (j - 1) ≡ 8 * b + 1 - j + 1 = omega arith in
+          let gap : occurrences t w (8 * b + 1 - j + 1) (8 * b + 1 - i) ≡ [] = rw behind at (chain-gap (j - 1) i next (omega arith) (omega arith)) in
+          occurrences-append t w p (8 * b + 1 - j) (8 * b + 1 - i) (omega arith) (omega arith)
+          ∙ ap (λ (r : List ℕ). occurrences t w p (8 * b + 1 - j) ++ r)
+          (occurrences-append t w (8 * b + 1 - j) (8 * b + 1 - j + 1) (8 * b + 1 - i) (omega arith) (omega arith)
+          ∙ ap₂ (λ (x y : List ℕ). x ++ y) (occurrences-one t w (8 * b + 1 - j)) gap
+          ∙ append-nil _)
 
-    pub walk-by : (i : ℕ) → 0 < j → i ≡ lastShown w byteOf (j - 1) → occurs t w (8 * b + 1 - j) ≡ false
-        → occurrences t w p (8 * b + 1 - i) ≡ occurrences t w p (8 * b + 1 - j)
-    walk-by i g e o =
-        walk-on i g e ∙ ap (λ (x : Bool). occurrences t w p (8 * b + 1 - j) ++ keep x (8 * b + 1 - j) []) o ∙ append-nil _
+      pub walk-by : occurs t w (8 * b + 1 - j) ≡ false → occurrences t w p (8 * b + 1 - i) ≡ occurrences t w p (8 * b + 1 - j)
+      walk-by o =
+          walk-on ∙ ap (λ (x : Bool). occurrences t w p (8 * b + 1 - j) ++ keep x (8 * b + 1 - j) []) o ∙ append-nil _
 
-    pub walk-found : (i : ℕ) → 0 < j → i ≡ lastShown w byteOf (j - 1) → occurs t w (8 * b + 1 - j) ≡ true
-        → occurrences t w p (8 * b + 1 - i) ≡ occurrences t w p (8 * b + 1 - j) ++ (8 * b + 1 - j) ∷ []
-    walk-found i g e o =
-        walk-on i g e ∙ ap (λ (x : Bool). occurrences t w p (8 * b + 1 - j) ++ keep x (8 * b + 1 - j) []) o
+      pub walk-found : occurs t w (8 * b + 1 - j) ≡ true
+          → occurrences t w p (8 * b + 1 - i) ≡ occurrences t w p (8 * b + 1 - j) ++ (8 * b + 1 - j) ∷ []
+      walk-found o = walk-on ∙ ap (λ (x : Bool). occurrences t w p (8 * b + 1 - j) ++ keep x (8 * b + 1 - j) []) o
 
     -- it ends at a link whose place is not below E, or without a link
     pub walk-end : j ≤ 8 * b + 1 - places t w → occurrences t w p (8 * b + 1 - j) ≡ occurrences t w p (8 * b + 1)

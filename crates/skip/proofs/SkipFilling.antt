@@ -1,6 +1,6 @@
 -- Laws of filling the chains of the skip method: all heads empty, and one index more.
 -- Assumes nothing.
-use Prim.Native.Nat.{ℕ, suc, _+_, _-_, _≤_, _<_}
+use Prim.Native.Nat.{ℕ, suc, _+_, _≤_, _<_}
 use mathlib.Core.Path.{_≡_, refl, sym, ap, _∙_}
 use mathlib.Core.Logic.{_⊎_, inl, inr}
 use mathlib.Core.Bool.{Bool, true, false}
@@ -15,7 +15,7 @@ use Rattle.bits.specs.Packed.{bitsAt}
 use Rattle.bits.proofs.Run.{bits-lt}
 use Rattle.rules.specs.declared.Method.the-variants.{Skip}
 use Rattle.rules.specs.Pattern.{Pattern}
-use Rattle.matcher.specs.Tables.{lastShown, Prepared}
+use Rattle.matcher.specs.Tables.{chained, lastShown, Prepared}
 use Rattle.rules.proofs.Ranges.{eq-or-below}
 use Rattle.skip.proofs.SkipChain.{shown-zero, shown-here, shown-before}
 
@@ -111,7 +111,7 @@ filled-more w before cells k v f ev h room =
 
 -- all indices are entered, from empty chains on
 pub filled-all : (w : Pattern) (before cleared cells : List ℕ) (k : ℕ) → cleared ≡ replicate 256 0 ++ drop 256 before → 256 ≤ length before
-    → Filled w cleared k cells → k ≡ w .count - 7 → Prepared Skip w before cells
+    → Filled w cleared k cells → k ≡ chained (w .count) → Prepared Skip w before cells
 filled-all w before cleared cells k c h f e =
     record {
       tables = record { head-is = λ B l. f .heads B l ∙ ap (lastShown w B) e; link-is = λ j l. f .links j (omega arith) };

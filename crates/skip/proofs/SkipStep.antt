@@ -23,7 +23,7 @@ use Rattle.rules.proofs.Occurrence.{occurs-inside, occurrences-append, occurren
 use Rattle.matcher.proofs.Progress.{reaches-quiet, reaches-join}
 use Rattle.matcher.proofs.Writing.{Writing, writing-more, writing-length, stepped-whole, stepped-full}
 use Rattle.rules.proofs.Skip.{reaches-byte, contains-byte, shown-occurs}
-use Rattle.skip.proofs.SkipChain.{shown-lower, byteOf, walk-start}
+use Rattle.skip.proofs.SkipChain.{byteOf, walk-start}
 
 module _ (t : Packed) (w : Pattern) where
   -- the occurrences from s to e, from an occurrence a among them on
@@ -49,16 +49,7 @@ module _ (t : Packed) (w : Pattern) where
     empty-chain e =
         let low = reaches-byte w s long in
         rw (sub-zero (8 * lastByte w s + 1)) at
-        (walk-start t w (lastByte w s) s 0 (contains-byte w s long s (omega arith) low) (omega arith) (sym e))
-
-    -- no index at all shows it
-    pub no-head : lastShown w (byteOf t w (lastByte w s)) (w .count - 7) ≡ 0 → occurrences t w s (8 * lastByte w s + 1) ≡ []
-    no-head e =
-        let low = reaches-byte w s long in
-        empty-chain
-        (shown-lower w (byteOf t w (lastByte w s)) (w .count - 7) (8 * lastByte w s + 1 - s) (omega arith)
-        (omega (arith, contains-byte w s long s (omega arith) low))
-        ∙ e)
+        (walk-start t w (lastByte w s) s 0 (contains-byte w s long s (omega arith) low) (omega arith) (omega (arith, e)))
 
   -- a step more that finds nothing
   pub quiet-more : (s p k q : ℕ) → 15 ≤ w .count → Reaches Skip t w s k [] p → p < places t w

@@ -17,7 +17,7 @@ ghost use lib.ListN.{length, drop, replicate};
 ghost use Rattle.bits.specs.Packed.{bitsAt};
 ghost use Rattle.rules.specs.Occurrence.{places, occurrences};
 ghost use Rattle.rules.specs.Skip.{lastByte};
-ghost use Rattle.matcher.specs.Tables.{cellsFor, lastShown, SkipTables, Prepared};
+ghost use Rattle.matcher.specs.Tables.{cellsFor, chained, lastShown, SkipTables, Prepared};
 ghost use Rattle.matcher.specs.Progress.{textOf, patternOf, HeadOf, GoodPattern, Ready, Quiet, Stepped};
 
 // Where steps over empty chains end: the mark, the steps made, and the link with which the mark's chain begins, or 0 where
@@ -40,15 +40,16 @@ fn clear(cells: &mut [u64])
     }
 }
 
-// Enters the indices 0 to m - 8, each at the head of its chain.
+// Enters the indices of the places of a step from a mark 8 b + 1 on, rising, each at the head of its chain.
 pub fn prepare(word: &[u8], m: u32, cells: &mut [u64])
     requires { ⌜ GoodPattern Method.Skip (patternOf (now word) m) ⌝ }
     requires { ⌜ cellsFor Method.Skip m ≤ length (now cells) ⌝ }
     ensures { λ _. ⌜ Prepared Method.Skip (patternOf (now (word .entry)) m) (now (cells .entry)) (now (cells .exit)) ⌝ }
 {
     clear(cells);
+    let count = (m + 1) / 8 * 8 - 8;
     let mut j = 0u32;
-    while j + 7 < m {
+    while j < count {
         let v = load::byte_at(word, Place(j));
         let k = j as usize;
         cells[256 + k] = cells[v as usize];
@@ -60,7 +61,7 @@ pub fn prepare(word: &[u8], m: u32, cells: &mut [u64])
 // The head of v's chain without the indices from k on.
 fn below(word: &[u8], m: u32, cells: &[u64], v: u8, k: u32) -> u64
     requires { ⌜ SkipTables (patternOf (now word) m) (now cells) ⌝ }
-    requires { ⌜ (256 + m ≤ length (now cells)) × (k + 7 ≤ m) ⌝ }
+    requires { ⌜ (256 + m ≤ length (now cells)) × (k ≤ chained m) ⌝ }
     ensures { λ r. ⌜ r ≡ lastShown (patternOf (now (word .entry)) m) v k ⌝ }
 {
     let high = k as u64;
@@ -69,6 +70,35 @@ fn below(word: &[u8], m: u32, cells: &[u64], v: u8, k: u32) -> u64
         j = cells[(255 + j) as usize];
     }
     j
+}
+
+// The link to try first for the places from index k - 1 down: an index that is not chained is tried whatever it shows.
+fn first_link(word: &[u8], m: u32, cells: &[u64], v: u8, k: u32) -> u64
+    requires { ⌜ SkipTables (patternOf (now word) m) (now cells) ⌝ }
+    requires { ⌜ (256 + m ≤ length (now cells)) × (k + 7 ≤ m) × (15 ≤ m) × (m ≤ 2048) ⌝ }
+    ensures { λ r. ⌜ (r ≤ k) × (lastShown (patternOf (now (word .entry)) m) v k ≤ r) × (r ≤ chained m → lastShown (patternOf (now (word .entry)) m) v r ≡ r) ⌝ }
+{
+    if (m + 1) / 8 * 8 - 8 < k {
+        return k as u64;
+    }
+    below(word, m, cells, v, k)
+}
+
+// The link to try after j.
+fn next_link(word: &[u8], m: u32, cells: &[u64], v: u8, j: u64) -> u64
+    requires { ⌜ SkipTables (patternOf (now word) m) (now cells) ⌝ }
+    requires { ⌜ (256 + m ≤ length (now cells)) × (0 < j) × (j + 7 ≤ m) × (15 ≤ m) × (m ≤ 2048) ⌝ }
+    requires { ⌜ (j ≤ chained m → lastShown (patternOf (now word) m) v j ≡ j) ⌝ }
+    ensures { λ r. ⌜ (r < j) × (lastShown (patternOf (now (word .entry)) m) v (j - 1) ≤ r) × (r ≤ chained m → lastShown (patternOf (now (word .entry)) m) v r ≡ r) ⌝ }
+{
+    let count = ((m + 1) / 8 * 8 - 8) as u64;
+    if j <= count {
+        return cells[(255 + j) as usize];
+    }
+    if j == count + 1 {
+        return cells[v as usize];
+    }
+    j - 1
 }
 
 // By how much a mark lies over the number of places.
@@ -91,7 +121,7 @@ fn stands(
 ) -> bool
     requires { ⌜ Ready Method.Skip (textOf (now text) n) (patternOf (now word) m) (now cells) ⌝ }
     requires { ⌜ HeadOf (patternOf (now word) m) (h .bits) (h .cut) ⌝ }
-    requires { ⌜ (8 * b .0 + 8 ≤ n) × (link ≤ 8 * b .0 + 1) × (link + 7 ≤ m) ⌝ }
+    requires { ⌜ (8 * b .0 + 8 ≤ n) × (link ≤ 8 * b .0 + 1) × (link ≤ chained m) ⌝ }
     requires { ⌜ lastShown (patternOf (now word) m) (bitsAt (now text) (8 * b .0) 8) link ≡ link ⌝ }
     ensures { λ r. ⌜ r ≡ ltb 0 (length (occurrences (textOf (now (text .entry)) n) (patternOf (now (word .entry)) m) (8 * b .0 + 1 - link) (8 * b .0 + 1))) ⌝ }
 {
@@ -116,30 +146,36 @@ fn cut(mark: u32, end: u32) -> u32
 }
 
 // Steps whose byte the pattern shows at none of their places. From the mark 8 b + 1 on, the byte is b + (m + 1) / 8 - 1.
-// Where a link is given, a step is due, and the link heads the chain of its places.
+// Where a link is given, a step is due, and the link heads the chain of its places. From any other mark it makes no step:
+// only a call's first mark is one.
 fn pass(text: &[u8], n: u32, word: &[u8], m: u32, cells: &[u64], s: Place, budget: u32) -> Halt
     requires { ⌜ Ready Method.Skip (textOf (now text) n) (patternOf (now word) m) (now cells) ⌝ }
     requires { ⌜ s .0 ≤ places (textOf (now text) n) (patternOf (now word) m) ⌝ }
     ensures { λ r. ⌜ Quiet Method.Skip (textOf (now (text .entry)) n) (patternOf (now (word .entry)) m) (s .0) budget (r .at .0) (r .steps) ⌝ }
-    ensures { λ r. ⌜ (0 < r .link → (r .at .0 < places (textOf (now (text .entry)) n) (patternOf (now (word .entry)) m)) × (r .steps < budget)
+    ensures { λ r. ⌜ (0 < r .link → (r .at .0 < places (textOf (now (text .entry)) n) (patternOf (now (word .entry)) m)) × (r .steps < budget) × (r .link ≤ chained m)
         × (r .link ≡ lastShown (patternOf (now (word .entry)) m) (bitsAt (now (text .entry)) (8 * lastByte (patternOf (now (word .entry)) m) (r .at .0)) 8) (8 * lastByte (patternOf (now (word .entry)) m) (r .at .0) + 1 - r .at .0))) ⌝ }
 {
     let end = n - m + 1;
     let stride = (m + 1) / 8 - 1;
     let mut at = s.0;
+    if at % 8 != 1 {
+        return Halt {
+            at: Place(at),
+            steps: 0,
+            link: 0,
+        };
+    }
     let mut b = (at + m) / 8 - 1;
     let mut steps = 0u32;
     while at < end && steps < budget {
         let v = text[b as usize];
-        if cells[v as usize] != 0 {
-            let link = below(word, m, cells, v, 8 * b + 1 - at);
-            if link != 0 {
-                return Halt {
-                    at: Place(at),
-                    steps: steps,
-                    link: link,
-                };
-            }
+        let link = cells[v as usize];
+        if link != 0 {
+            return Halt {
+                at: Place(at),
+                steps: steps,
+                link: link,
+            };
         }
         at = 8 * b + 1;
         b += stride;
@@ -219,7 +255,7 @@ pub fn step(
     let top = 8 * b + 1;
     let low = over(top, end);
     let v = text[b as usize];
-    let mut j = below(word, m, cells, v, top - at);
+    let mut j = first_link(word, m, cells, v, top - at);
     let mut hits = had;
     while (low as u64) < j {
         let a = (top as u64 - j) as u32;
@@ -234,7 +270,7 @@ pub fn step(
             list[hits] = a;
             hits += 1;
         }
-        j = cells[(255 + j) as usize];
+        j = next_link(word, m, cells, v, j);
     }
     Found {
         at: Place(cut(top, end)),

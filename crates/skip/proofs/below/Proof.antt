@@ -1,11 +1,11 @@
 -- `skip::below` meets its contract. The loop's invariant: the walk along the chain has not left out an index
 -- below the bound.
 -- Assumes nothing.
-use Prim.Native.Nat.{_+_, _≤_}
+use Prim.Native.Nat.{_≤_}
 use native.Mathlib.Omega.{arith}
 use denote.Ref.{now}
 use Rattle.matcher.specs.Progress.{patternOf}
-use Rattle.skip.proofs.SkipChain.{Headed, headed-first, headed-within, headed-less, headed-more, headed-done}
+use Rattle.skip.proofs.SkipChain.{chained-le, Headed, headed-first, headed-within, headed-less, headed-more, headed-done}
 use Rattle.skip.proofs.below.Statement.{statement}
 use Rattle.skip.proofs.below.Tie as tie
 
@@ -15,11 +15,11 @@ Inv-loop word m cells v k high j₀ j = Headed (patternOf word m) v k j
 abbrev μ-loop : tie.MeasureT-loop
 μ-loop word m cells v k high j₀ j = j
 
-near : (c : tie.In-loop Inv-loop μ-loop) → c .before .loop .j + 7 ≤ c .before .before .before .args .m
+near : (c : tie.In-loop Inv-loop μ-loop) → c .before .loop .j ≤ c .before .before .before .args .m
 near c =
     let a = c .before .before .before .args in
     let l = c .before .loop in
-    headed-within (patternOf (now (a .word)) (a .m)) (now (a .cells)) (c .before .before .before .pre .0) (a .v) (a .k) (l .j) (l .inv)
+    omega (arith, chained-le (a .m), headed-within (patternOf (now (a .word)) (a .m)) (now (a .cells)) (c .before .before .before .pre .0) (a .v) (a .k) (l .j) (l .inv))
 
 mul-j : tie.Need-mul-j Inv-loop μ-loop
 mul-j c = omega arith

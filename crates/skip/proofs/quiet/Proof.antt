@@ -93,7 +93,7 @@ stands-requires c κs =
     let long : 15 ≤ a .m = ltb-false (a .m) 15 (s .pre .0 .pattern .fit) in
     let next = k .pass .ensures .1 (due c) in
     let within = shown-is w (byteOf t w (lastByte w (r .at .0))) (8 * lastByte w (r .at .0) + 1 - r .at .0) .within in
-    (s .pre .0, (s .pre .1 .0, (omega (arith, next .0, next .2), shown-again w (byteOf t w (lastByte w (r .at .0))) _ (r .link) (next .2))))
+    (s .pre .0, (s .pre .1 .0, (omega (arith, next .0, next .2, next .3), shown-again w (byteOf t w (lastByte w (r .at .0))) _ (r .link) (next .3))))
 
 returns-2 : tie.Need-returns-2 Inv-loop μ-loop
 returns-2 c = made (c .before .before .before .before .before)
@@ -127,8 +127,8 @@ loop-again c =
     let b = lastByte w (r .at .0) in
     let low = reaches-byte w (r .at .0) long in
     let fits = contains-byte w (r .at .0) long (r .at .0) (omega arith) low in
-    let within : r .link + r .at .0 ≤ 8 * b + 1 = omega (arith, next .2, shown-is w (byteOf t w b) (8 * b + 1 - r .at .0) .within) in
-    let nothing = none-in-parts t w (r .at .0) (8 * b + 1 - r .link) (8 * b + 1) (omega arith) (omega arith) (walk-start t w b (r .at .0) (r .link) fits within (next .2))
+    let within : r .link + r .at .0 ≤ 8 * b + 1 = omega (arith, next .3, shown-is w (byteOf t w b) (8 * b + 1 - r .at .0) .within) in
+    let nothing = none-in-parts t w (r .at .0) (8 * b + 1 - r .link) (8 * b + 1) (omega arith) (omega arith) (walk-start t w b (r .at .0) (r .link) fits within (omega (arith, next .3)))
     (sym (c .before .before .stands .ensures) ∙ c .before .if2 .left) in
     let mark : c .cut .result ≡ min (8 * b + 1) (places t w) = rw (places-some t w (s .pre .0 .inside)) (c .cut .ensures) in (
       omega (arith, mark),

@@ -7,13 +7,14 @@ use mathlib.Core.Path.{_≡_, sym, ap, _∙_}
 use mathlib.Core.List.{List, []}
 use native.Mathlib.Omega.{arith}
 use denote.Ref.{now}
+use borrow.Author.Tests.{ltb-false}
 use lib.Dec.{ltb}
 use lib.ListN.{length}
 use Rattle.bits.specs.Packed.{bitsAt}
 use Rattle.rules.specs.Occurrence.{occurrences}
 use Rattle.matcher.specs.Progress.{textOf, patternOf}
 use Rattle.rules.proofs.Occurrence.{occurrences-none}
-use Rattle.skip.proofs.SkipChain.{byteOf, Headed, headed-own, headed-within, headed-link, headed-less, headed-more, walk-by, walk-end}
+use Rattle.skip.proofs.SkipChain.{chained-fits, byteOf, Headed, headed-own, headed-link, headed-less, headed-more, walk-by, walk-end}
 use Rattle.skip.proofs.SkipStep.{compared, some-occurrence}
 use Rattle.skip.proofs.stands.Statement.{statement}
 use Rattle.skip.proofs.stands.Tie as tie
@@ -35,8 +36,9 @@ near c =
     let t = textOf (now (a .text)) (a .n) in
     let w = patternOf (now (a .word)) (a .m) in
     let b = a .b .0 in
+    let fits : a .link + 7 ≤ a .m = omega (arith, chained-fits (a .m) (ltb-false (a .m) 15 (s .pre .0 .pattern .fit))) in
     let l = c .before .before .before .loop in
-    headed-within w (now (a .cells)) (s .pre .0 .tables) (byteOf t w b) 0 (l .j) (l .inv .1)
+    omega (arith, l .inv .0)
 
 mul-top : tie.Need-mul-top Inv-loop μ-loop
 mul-top c = omega arith
@@ -91,6 +93,7 @@ returns c =
     let t = textOf (now (a .text)) (a .n) in
     let w = patternOf (now (a .word)) (a .m) in
     let b = a .b .0 in
+    let fits : a .link + 7 ≤ a .m = omega (arith, chained-fits (a .m) (ltb-false (a .m) 15 (s .pre .0 .pattern .fit))) in
     let l = c .before .before .before .loop in
     let found = sym (compared (now (a .text)) (a .n) w (8 * b + 1 - l .j) (omega arith)) ∙ sym (c .before .same .ensures) ∙ c .if1 .taken in
     sym (some-occurrence t w (8 * b + 1 - a .link) (8 * b + 1 - l .j) (8 * b + 1) (omega arith) (omega arith) found)
@@ -111,6 +114,7 @@ loop-less c =
     let t = textOf (now (a .text)) (a .n) in
     let w = patternOf (now (a .word)) (a .m) in
     let b = a .b .0 in
+    let fits : a .link + 7 ≤ a .m = omega (arith, chained-fits (a .m) (ltb-false (a .m) 15 (s .pre .0 .pattern .fit))) in
     let l = c .before .before .before .before .loop in
     headed-less w (now (a .cells)) (s .pre .0 .tables) (byteOf t w b) 0 (l .j) (l .inv .1) (omega arith)
 
@@ -121,12 +125,14 @@ loop-again c =
     let t = textOf (now (a .text)) (a .n) in
     let w = patternOf (now (a .word)) (a .m) in
     let b = a .b .0 in
+    let fits : a .link + 7 ≤ a .m = omega (arith, chained-fits (a .m) (ltb-false (a .m) 15 (s .pre .0 .pattern .fit))) in
     let l = c .before .before .before .before .loop in
     let missed = sym (compared (now (a .text)) (a .n) w (8 * b + 1 - l .j) (omega arith)) ∙ sym (c .before .before .same .ensures) ∙ c .before .if1 .left in
-    let link = headed-link w (now (a .cells)) (s .pre .0 .tables) (byteOf t w b) 0 (l .j) (l .inv .1) (omega arith) in (
-      omega (arith, headed-less w (now (a .cells)) (s .pre .0 .tables) (byteOf t w b) 0 (l .j) (l .inv .1) (omega arith)),
+    let link = headed-link w (now (a .cells)) (s .pre .0 .tables) (byteOf t w b) 0 (l .j) (l .inv .1) (omega arith) in
+    let less = headed-less w (now (a .cells)) (s .pre .0 .tables) (byteOf t w b) 0 (l .j) (l .inv .1) (omega arith) in (
+      omega arith,
       headed-more w (now (a .cells)) (s .pre .0 .tables) (byteOf t w b) 0 (l .j) (l .inv .1) (omega arith),
-      walk-by t w b (8 * b + 1 - a .link) (l .j) (omega arith) (omega arith) _ (omega arith) link missed ∙ l .inv .2,
+      walk-by t w b (8 * b + 1 - a .link) (l .j) (omega arith) (omega arith) _ less (omega (arith, link)) missed ∙ l .inv .2,
     )
 
 returns-2 : tie.Need-returns-2 Inv-loop μ-loop
@@ -136,6 +142,7 @@ returns-2 c =
     let t = textOf (now (a .text)) (a .n) in
     let w = patternOf (now (a .word)) (a .m) in
     let b = a .b .0 in
+    let fits : a .link + 7 ≤ a .m = omega (arith, chained-fits (a .m) (ltb-false (a .m) 15 (s .pre .0 .pattern .fit))) in
     let l = c .before .loop in
     let none = sym (walk-end t w b (8 * b + 1 - a .link) (l .j) (omega arith) (omega arith) (omega arith)) ∙ l .inv .2 in
     sym (ap (λ (r : List ℕ). ltb 0 (length r)) none)

@@ -7,14 +7,13 @@ use mathlib.Core.Logic.{⊎-elim}
 use native.Mathlib.Omega.{arith}
 use denote.Ref.{now}
 use borrow.Author.Tests.{ltb-false}
-use Rattle.bits.specs.Packed.{bitsAt}
 use Rattle.rules.specs.Occurrence.{occurrences}
-use Rattle.matcher.specs.Tables.{lastShown}
+use Rattle.matcher.specs.Tables.{chained, lastShown}
 use Rattle.matcher.specs.Progress.{textOf, patternOf}
 use Rattle.rules.proofs.Occurrence.{places-some}
 use Rattle.matcher.proofs.Writing.{Writing, writing-none, writing-length}
 use Rattle.rules.proofs.Skip.{reaches-byte, contains-byte}
-use Rattle.skip.proofs.SkipChain.{byteOf, byte-is, shown-is, shown-again, Headed, headed-own, headed-within, headed-link, headed-less, headed-more, walk-start, walk-by, walk-found, walk-end}
+use Rattle.skip.proofs.SkipChain.{byte-is, walk-start, walk-by, walk-found, walk-end}
 use Rattle.skip.proofs.SkipStep.{span-fits, link-inside, link-outside, compared, written-more, skip-full, skip-whole}
 use Rattle.skip.proofs.step.Statement.{statement}
 use Rattle.skip.proofs.step.Tie as tie
@@ -22,7 +21,7 @@ use Rattle.skip.proofs.step.Tie as tie
 abbrev Inv-loop : tie.InvT-loop
 Inv-loop text n word m h cells list₀ had at end b top low v j₀ hits₀ list j hits =
     (j + at ≤ 8 * b + 1)
-    × Headed (patternOf word m) (bitsAt text (8 * b) 8) 0 j
+    × (j ≤ chained m → lastShown (patternOf word m) v j ≡ j)
     × Writing list₀ had (occurrences (textOf text n) (patternOf word m) at (8 * b + 1 - j)) list hits
 
 abbrev μ-loop : tie.MeasureT-loop
@@ -37,6 +36,15 @@ below-top x j g l = omega arith
 from-mark : (p j x : ℕ) → j + p ≤ x → p ≤ x - j
 from-mark p j x h = omega arith
 
+top-fits : (p m : ℕ) → p ≤ 2 ^ 30 → m ≤ 2048 → 8 * ((p + m) / 8 - 1) + 1 < 2 ^ 64
+top-fits p m h g = omega arith
+
+index-fits : (p m x j : ℕ) → x - p + 7 ≤ m → j + p ≤ x → j + 7 ≤ m
+index-fits p m x j h g = omega arith
+
+up-to : (p j x : ℕ) → j ≤ x - p → p ≤ x → j + p ≤ x
+up-to p j x h g = omega arith
+
 -- the link's place is below E
 inside : (c : tie.In-loop Inv-loop μ-loop)
     → let a = c .before .before .before .before .before .before .before .before .before .args in
@@ -46,17 +54,6 @@ inside c =
     let s = c .before .before .before .before .before .before .before .before .before in
     let a = s .args in
     link-inside (a .n) (a .m) ((a .s .0 + a .m) / 8 - 1) (a .s .0) (l .j) _ (s .pre .0 .inside) (c .before .before .before .before .over .ensures) (l .inv .0) (c .loop-test .taken)
-
-near : (c : tie.Joined1 Inv-loop μ-loop)
-    → c .before .before .before .loop .j + 7 ≤ c .before .before .before .before .before .before .before .before .before .before .before .args .m
-near c =
-    let l = c .before .before .before .loop in
-    let s = c .before .before .before .before .before .before .before .before .before .before .before in
-    let a = s .args in
-    let t = textOf (now (a .text)) (a .n) in
-    let w = patternOf (now (a .word)) (a .m) in
-    let b = (a .s .0 + a .m) / 8 - 1 in
-    headed-within w (now (a .cells)) (s .pre .0 .tables) (byteOf t w b) 0 (l .j) (l .inv .1)
 
 sub-end : tie.Need-sub-end Inv-loop μ-loop
 sub-end c = omega (arith, ltb-false)
@@ -85,13 +82,14 @@ cast-v c = omega (arith, ltb-false)
 shared-slice-read-v : tie.Need-shared-slice-read-v Inv-loop μ-loop
 shared-slice-read-v c = omega (arith, ltb-false)
 
-sub-below : tie.Need-sub-below Inv-loop μ-loop
-sub-below c = omega (arith, ltb-false)
+sub-first-link : tie.Need-sub-first-link Inv-loop μ-loop
+sub-first-link c = omega (arith, ltb-false)
 
-below-requires : tie.Need-below-requires Inv-loop μ-loop
-below-requires c κs =
+first-link-requires : tie.Need-first-link-requires Inv-loop μ-loop
+first-link-requires c κs =
     let s = c .before .before .before .before .before .before in
-    (s .pre .0 .tables, (s .pre .0 .room, span-fits (s .args .s .0) (s .args .m) (ltb-false (s .args .m) 15 (s .pre .0 .pattern .fit))))
+    let long = ltb-false (s .args .m) 15 (s .pre .0 .pattern .fit) in
+    (s .pre .0 .tables, (s .pre .0 .room, span-fits (s .args .s .0) (s .args .m) long, long, s .pre .0 .pattern .few-bits))
 
 loop-holds : tie.Need-loop-holds Inv-loop μ-loop
 loop-holds c =
@@ -101,22 +99,24 @@ loop-holds c =
     let w = patternOf (now (a .word)) (a .m) in
     let b = (a .s .0 + a .m) / 8 - 1 in
     let long : 15 ≤ a .m = ltb-false (a .m) 15 (s .pre .0 .pattern .fit) in
-    let j = c .below .result in
+    let e = c .first-link .ensures in
     let byte = byte-is (now (a .text)) b (c .before .shared-slice-known4 .given b .fits) in
-    let head : j ≡ lastShown w (byteOf t w b) (8 * b + 1 - a .s .0) = c .below .ensures ∙ ap (λ (v : ℕ). lastShown w v (8 * b + 1 - a .s .0)) byte in
     let low = reaches-byte w (a .s .0) long in
-    let within : j + a .s .0 ≤ 8 * b + 1 = omega (arith, head, shown-is w (byteOf t w b) (8 * b + 1 - a .s .0) .within) in
+    let within = up-to (a .s .0) (c .first-link .result) (8 * b + 1) (e .0) (omega arith) in
     let fits = contains-byte w (a .s .0) long (a .s .0) (omega arith) low in (
       within,
-      headed-own w (now (a .cells)) (s .pre .0 .tables) (byteOf t w b) 0 j (shown-again w (byteOf t w b) _ j head) (omega arith) (omega arith),
-      rw (walk-start t w b (a .s .0) j fits within head) (writing-none (now (a .list)) (a .had) (s .pre .1 .1 .1)),
+      e .2,
+      rw (walk-start t w b (a .s .0) (c .first-link .result) fits within (rw byte at (e .1))) (writing-none (now (a .list)) (a .had) (s .pre .1 .1 .1)),
     )
 
 cast-loop : tie.Need-cast-loop Inv-loop μ-loop
 cast-loop c = omega (arith, ltb-false)
 
 cast-a : tie.Need-cast-a Inv-loop μ-loop
-cast-a c = omega (arith, ltb-false)
+cast-a c =
+    let s = c .before .before .before .before .before .before .before .before .before in
+    let near = place-fits (s .args .s .0) (s .args .n) (s .args .m) (2 ^ 30) (s .pre .1 .1 .0) (s .pre .0 .few-bits) in
+    record { fits = top-fits (s .args .s .0) (s .args .m) near (s .pre .0 .pattern .few-bits) }
 
 sub-a : tie.Need-sub-a Inv-loop μ-loop
 sub-a c = omega (arith, ltb-false)
@@ -158,24 +158,18 @@ slice-write-list c = omega (arith, ltb-false)
 add-hits : tie.Need-add-hits Inv-loop μ-loop
 add-hits c = omega (arith, ltb-false)
 
-add-j : tie.Need-add-j Inv-loop μ-loop
-add-j c = omega (arith, near c)
-
-mul-j : tie.Need-mul-j Inv-loop μ-loop
-mul-j c = omega (arith, near c)
-
-shared-slice-read-j : tie.Need-shared-slice-read-j Inv-loop μ-loop
-shared-slice-read-j c = omega (arith, near (c .before))
+next-link-requires : tie.Need-next-link-requires Inv-loop μ-loop
+next-link-requires c κs =
+    let l = c .before .before .before .loop in
+    let s = c .before .before .before .before .before .before .before .before .before .before .before in
+    let a = s .args in
+    let b = (a .s .0 + a .m) / 8 - 1 in
+    let long : 15 ≤ a .m = ltb-false (a .m) 15 (s .pre .0 .pattern .fit) in
+    let fits = index-fits (a .s .0) (a .m) (8 * b + 1) (l .j) (span-fits (a .s .0) (a .m) long) (l .inv .0) in
+    (s .pre .0 .tables, ((s .pre .0 .room, omega arith, fits, long, s .pre .0 .pattern .few-bits), l .inv .1))
 
 loop-less : tie.Need-loop-less Inv-loop μ-loop
-loop-less c =
-    let l = c .before .before .before .before .loop in
-    let s = c .before .before .before .before .before .before .before .before .before .before .before .before in
-    let a = s .args in
-    let t = textOf (now (a .text)) (a .n) in
-    let w = patternOf (now (a .word)) (a .m) in
-    let b = (a .s .0 + a .m) / 8 - 1 in
-    headed-less w (now (a .cells)) (s .pre .0 .tables) (byteOf t w b) 0 (l .j) (l .inv .1) (omega arith)
+loop-less c = c .next-link .ensures .0
 
 loop-again : tie.Need-loop-again Inv-loop μ-loop
 loop-again c =
@@ -187,16 +181,17 @@ loop-again c =
     let b = (a .s .0 + a .m) / 8 - 1 in
     let long : 15 ≤ a .m = ltb-false (a .m) 15 (s .pre .0 .pattern .fit) in
     let test = sym (compared (now (a .text)) (a .n) w (8 * b + 1 - l .j) (inside (c .before .before .before))) ∙ sym (c .before .before .same .ensures) in
-    let some : 0 < l .j = omega arith in
-    let link = headed-link w (now (a .cells)) (s .pre .0 .tables) (byteOf t w b) 0 (l .j) (l .inv .1) some in
+    let e = c .next-link .ensures in
+    let byte = byte-is (now (a .text)) b (c .before .before .before .before .before .before .shared-slice-known4 .given b .fits) in
+    let link = rw byte at (e .1) in
     let fits = contains-byte w (a .s .0) long (a .s .0) (omega arith) (reaches-byte w (a .s .0) long) in (
-      omega (arith, headed-less w (now (a .cells)) (s .pre .0 .tables) (byteOf t w b) 0 (l .j) (l .inv .1) some),
-      headed-more w (now (a .cells)) (s .pre .0 .tables) (byteOf t w b) 0 (l .j) (l .inv .1) some,
+      omega (arith, e .0),
+      e .2,
       ⊎-elim
           (λ u. rw (u .2, u .3)
           (written-more t w (a .s .0) (now (a .list)) (a .had) (l .list) (l .hits) (8 * b + 1 - l .j) (l .inv .2) _
-          (walk-found t w b (a .s .0) (l .j) fits (l .inv .0) _ some link (test ∙ u .0 .taken)) (u .1 .left)))
-          (λ u. rw (u .1, u .2, walk-by t w b (a .s .0) (l .j) fits (l .inv .0) _ some link (test ∙ u .0 .left)) (l .inv .2))
+          (walk-found t w b (a .s .0) (l .j) fits (l .inv .0) _ (e .0) link (test ∙ u .0 .taken)) (u .1 .left)))
+          (λ u. rw (u .1, u .2, walk-by t w b (a .s .0) (l .j) fits (l .inv .0) _ (e .0) link (test ∙ u .0 .left)) (l .inv .2))
           (c .before .if1 .came),
     )
 
@@ -210,7 +205,6 @@ same-length-2 c =
 returns-2 : tie.Need-returns-2 Inv-loop μ-loop
 returns-2 c =
     let l = c .before .before .loop in
-    let over = c .before .before .before .before .before .over .ensures in
     let s = c .before .before .before .before .before .before .before .before .before .before in
     let a = s .args in
     let t = textOf (now (a .text)) (a .n) in
@@ -218,7 +212,7 @@ returns-2 c =
     let b = (a .s .0 + a .m) / 8 - 1 in
     let long : 15 ≤ a .m = ltb-false (a .m) 15 (s .pre .0 .pattern .fit) in
     let fits = contains-byte w (a .s .0) long (a .s .0) (omega arith) (reaches-byte w (a .s .0) long) in
-    let last = link-outside (a .n) (a .m) b (a .s .0) (l .j) _ (s .pre .0 .inside) over (l .inv .0) (c .before .loop-test .left) in
+    let last = link-outside (a .n) (a .m) b (a .s .0) (l .j) _ (s .pre .0 .inside) (c .before .before .before .before .before .over .ensures) (l .inv .0) (c .before .loop-test .left) in
     skip-whole t w (a .s .0) (now (a .list)) (a .had) (l .list) (l .hits) (8 * b + 1 - l .j) (l .inv .2) _ long
     (walk-end t w b (a .s .0) (l .j) fits (l .inv .0) last)
     (c .cut .ensures ∙ ap (min (8 * b + 1)) (sym (places-some t w (s .pre .0 .inside))))
@@ -238,8 +232,8 @@ step-spec =
     over-requires
     cast-v
     shared-slice-read-v
-    sub-below
-    below-requires
+    sub-first-link
+    first-link-requires
     loop-holds
     cast-loop
     cast-a
@@ -251,9 +245,7 @@ step-spec =
     mul-list
     slice-write-list
     add-hits
-    add-j
-    mul-j
-    shared-slice-read-j
+    next-link-requires
     loop-less
     loop-again
     cut-requires

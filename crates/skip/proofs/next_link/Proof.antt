@@ -1,0 +1,89 @@
+-- `skip::next_link` meets its contract: a link of the chain, its head, or the index before.
+-- Assumes nothing.
+use Prim.Native.Nat.{_-_, _≤_}
+use mathlib.Core.Path.{_≡_, sym, ap, _∙_}
+use native.Mathlib.Omega.{arith}
+use denote.Ref.{now}
+use Rattle.matcher.specs.Tables.{chained, lastShown}
+use Rattle.matcher.specs.Progress.{patternOf}
+use Rattle.skip.proofs.SkipChain.{chained-is, shown-is, shown-again, link-at}
+use borrow.Author.Needs.{needs}
+use Rattle.skip.proofs.next_link.Statement.{statement}
+use Rattle.skip.proofs.next_link.Tie as tie
+
+add-count : tie.Need-add-count
+add-count c = omega arith
+
+mul-count : tie.Need-mul-count
+mul-count c = omega arith
+
+sub-count : tie.Need-sub-count
+sub-count c = search needs
+
+cast-count : tie.Need-cast-count
+cast-count c = search needs
+
+add-result : tie.Need-add-result
+add-result c = search needs
+
+mul-result : tie.Need-mul-result
+mul-result c = search needs
+
+shared-slice-read-result : tie.Need-shared-slice-read-result
+shared-slice-read-result c = search needs
+
+returns : tie.Need-returns
+returns c =
+    let s = c .before .before in
+    let a = s .args in
+    let w = patternOf (now (a .word)) (a .m) in
+    let low : a .j ≤ chained (a .m) = omega (arith, chained-is (a .m)) in
+    let e = link-at w (now (a .cells)) (s .pre .0) (a .v) (a .j) (a .j) (sym (s .pre .1 .1 low)) low (omega arith) in
+    (omega (arith, e, shown-is w (a .v) (a .j - 1) .within), omega (arith, e), λ g. shown-again w (a .v) (a .j - 1) _ e)
+
+add-if2 : tie.Need-add-if2
+add-if2 c = search needs
+
+mul-result-2 : tie.Need-mul-result-2
+mul-result-2 c = search needs
+
+shared-slice-read-result-2 : tie.Need-shared-slice-read-result-2
+shared-slice-read-result-2 c = search needs
+
+returns-2 : tie.Need-returns-2
+returns-2 c =
+    let s = c .before .before .before in
+    let a = s .args in
+    let w = patternOf (now (a .word)) (a .m) in
+    let last : chained (a .m) ≡ a .j - 1 = omega (arith, chained-is (a .m)) in
+    let e = s .pre .0 .head-is (a .v) (omega arith) ∙ ap (lastShown w (a .v)) last in
+    (omega (arith, e, shown-is w (a .v) (a .j - 1) .within), omega (arith, e), λ g. shown-again w (a .v) (a .j - 1) _ e)
+
+sub-result : tie.Need-sub-result
+sub-result c = search needs
+
+returns-3 : tie.Need-returns-3
+returns-3 c =
+    let s = c .before .before in
+    let a = s .args in
+    let w = patternOf (now (a .word)) (a .m) in
+    (omega arith, shown-is w (a .v) (a .j - 1) .within, λ g. absurd (omega (arith, chained-is (a .m))))
+
+pub next-link-spec : {M : Type 1} → statement M
+next-link-spec =
+    tie.close
+    (tie.spec
+    add-count
+    mul-count
+    sub-count
+    cast-count
+    add-result
+    mul-result
+    shared-slice-read-result
+    returns
+    add-if2
+    mul-result-2
+    shared-slice-read-result-2
+    returns-2
+    sub-result
+    returns-3)
