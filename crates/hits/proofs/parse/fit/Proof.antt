@@ -1,0 +1,20 @@
+-- `hits::parse::fit` meets its contract.
+-- Assumes nothing.
+use borrow.Author.Tests.{lt-leb, le-leb}
+use borrow.Author.Needs.{needs}
+use Rattle.hits.proofs.parse.fit.Statement.{statement}
+use Rattle.hits.proofs.parse.fit.Tie as tie
+use Rattle.hits.proofs.parse.fit.Reads as reads
+use Rattle.hits.proofs.parse.fit.Lts as lts
+
+returns : tie.Need-returns
+returns c = rw (lt-leb _ _ (c .if1 .taken))
+
+returns-2 : tie.Need-returns-2
+returns-2 c = rw (le-leb _ _ (c .before .if1 .left), lt-leb _ _ (c .if2 .taken))
+
+returns-3 : tie.Need-returns-3
+returns-3 c = rw (le-leb _ _ (c .before .if1 .left), le-leb _ _ (c .if2 .left))
+
+pub fit-spec : {M : Type 1} → statement M
+fit-spec = tie.close (tie.spec returns returns-2 returns-3)

@@ -1,0 +1,96 @@
+-- `hits::report::search_line` meets its contract: the call's promise decides which line is printed.
+-- Assumes nothing.
+use native.Mathlib.Omega.{arith}
+use mathlib.Core.Path.{_∙_, ap}
+use Rattle.hits.proofs.Answers.{refused-line, accepted-line, accepted-room}
+use Rattle.hits.specs.Line.{refusedLine}
+use Rattle.hits.specs.Report.{numberIn}
+use borrow.Author.Needs.{needs}
+use Rattle.hits.proofs.report.search_line.Statement.{statement}
+use Rattle.hits.proofs.report.search_line.Tie as tie
+use Rattle.hits.proofs.report.search_line.Reads as reads
+use Rattle.hits.proofs.report.search_line.Lts as lts
+use Rattle.hits.proofs.line.accepted.Reads as accepted-reads
+use Rattle.hits.proofs.line.refused.Reads as refused-reads
+use Rattle.hits.proofs.report.number_in.Reads as number-in-reads
+use Rattle.search.proofs.Mark.new.Reads as new-reads
+use Rattle.search.proofs.Mark.search.Reads as search-reads
+
+new-requires : tie.Need-new-requires
+new-requires c κs = search needs
+
+search-requires : tie.Need-search-requires
+search-requires c κs = search needs
+
+enum-known-outcome : tie.Need-enum-known-outcome
+enum-known-outcome c = search needs
+
+enum-told : tie.Need-enum-told
+enum-told c = search needs
+
+number-in-requires : tie.Need-number-in-requires
+number-in-requires c κs = search needs
+
+refused-requires : tie.Need-refused-requires
+refused-requires c κs = search needs
+
+same-length : tie.Need-same-length
+same-length c = search needs
+
+same-length-2 : tie.Need-same-length-2
+same-length-2 c = search needs
+
+same-length-3 : tie.Need-same-length-3
+same-length-3 c = search needs
+
+returns : tie.Need-returns
+returns c =
+    let p = rw (c .before .before .before .before .before .before .before .before .before .before .before .before .before .before .new .ensures) at (c .before .before .before .before .before .before .before .before .before .before .before .search .ensures) in
+    let is = c .before .before .before .before .before .enum-told .given .1 in
+    let r = rw is at p in
+    let number = rw is at (c .before .before .before .number-in .ensures) in
+    let e = c .before .before .refused .ensures in
+    (e .0, e .1 ∙ rw number (refused-line _ _ _ _ _ r))
+
+accepted-requires : tie.Need-accepted-requires
+accepted-requires c κs =
+    let r = rw (c .before .before .before .outcome .given .1) at (c .before .before .before .before .before .before .before .before .before .search .ensures) in
+    let room = accepted-room _ _ _ _ r in
+    let kept = c .before .before .before .before .before .before .before .before .before .search .kept .1 .1 .1 .1 .1 .1 .1 .0 in
+    (room, omega (arith, room, kept))
+
+same-length-4 : tie.Need-same-length-4
+same-length-4 c = search needs
+
+same-length-5 : tie.Need-same-length-5
+same-length-5 c = search needs
+
+same-length-6 : tie.Need-same-length-6
+same-length-6 c = search needs
+
+returns-2 : tie.Need-returns-2
+returns-2 c =
+    let p = rw (c .before .before .before .before .before .before .before .before .before .before .before .before .before .before .before .new .ensures) at (c .before .before .before .before .before .before .before .before .before .before .before .before .search .ensures) in
+    let r = rw (c .before .before .before .before .before .before .outcome .given .1) at p in
+    let e = c .before .before .accepted .ensures in
+    (e .0, e .1 ∙ accepted-line _ _ _ _ _ r)
+
+pub search-line-spec : {M : Type 1} → statement M
+search-line-spec =
+    tie.close
+    (tie.spec
+    new-requires
+    search-requires
+    enum-known-outcome
+    enum-told
+    number-in-requires
+    refused-requires
+    same-length
+    same-length-2
+    same-length-3
+    returns
+    accepted-requires
+    same-length-4
+    same-length-5
+    same-length-6
+    returns-2)

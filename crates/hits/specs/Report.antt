@@ -1,0 +1,21 @@
+-- What is printed of a search call: its line, by what the call answers.
+use Prim.Native.Nat.{ℕ}
+use mathlib.Core.List.{List, _∷_}
+use lib.ListN.{take}
+use Rattle.rules.specs.declared.Method.{Method}
+use Rattle.rules.specs.Machine.{Run}
+use Rattle.search.specs.declared.Outcome.{Outcome}
+use Rattle.search.specs.declared.Outcome.the-variants.{Accepted, Refused}
+use Rattle.search.specs.Verdict.{Verdict, refused, accepted, numberOfRefusal}
+use Rattle.hits.specs.Line.{acceptedLine, refusedLine}
+
+-- the number of a refused call; an accepted one has none, which is 0 here
+abbrev pub numberIn : Outcome → ℕ
+numberIn (Accepted a) = 0
+numberIn (Refused r) = numberOfRefusal r
+
+-- 01: "A line .. is the method, steps, hit count and the hits; where the search refuses, it is the method, `refused` and
+-- the number." The verdict is that of the definitions to which the search call is equated.
+unfoldable pub lineOf : Method → Verdict Run → List ℕ
+lineOf x (accepted r) = acceptedLine x (r .steps) (r .written)
+lineOf x (refused number) = refusedLine x number

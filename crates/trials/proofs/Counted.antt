@@ -1,0 +1,11 @@
+-- A count that is at most a list's length counts elements at its start.
+-- Assumes nothing.
+use Prim.Native.Nat.{ℕ, _≤_}
+use mathlib.Core.Path.{sym}
+use mathlib.Core.List.{List}
+use lib.ListN.{length}
+use lib.Seq.{length-take-le}
+use Rattle.io.specs.Counts.{Counts}
+
+pub counted : (k : ℕ) (s : List ℕ) → k ≤ length s → Counts k s
+counted k s h = (h, sym (length-take-le k s h))

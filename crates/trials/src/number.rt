@@ -1,0 +1,37 @@
+// Sums and differences that never stop, for indices that a drawn case may put out of range.
+ghost use Prim.Native.Nat.{_≤_};
+
+pub(crate) fn plus(a: usize, b: usize) -> usize {
+    std::num::wrapping_add_usize(a, b)
+}
+
+// a − b, or 0.
+pub(crate) fn minus(a: usize, b: usize) -> usize {
+    if b <= a { a - b } else { 0 }
+}
+
+pub(crate) fn least_of(a: usize, b: usize) -> usize
+    ensures { λ r. ⌜ (r ≤ a) × (r ≤ b) ⌝ }
+{
+    if a < b { a } else { b }
+}
+
+pub(crate) fn wide(x: usize) -> u64 {
+    x as u64
+}
+
+pub(crate) fn index(x: u32) -> usize {
+    x as usize
+}
+
+pub(crate) fn small(x: usize) -> u32 {
+    (x % 4294967296) as u32
+}
+
+pub(crate) fn byte(x: usize) -> u8 {
+    (x % 256) as u8
+}
+
+pub(crate) fn of_byte(x: u8) -> usize {
+    x as usize
+}
