@@ -1,5 +1,5 @@
-# run: build `hits` and search the course's first paper. test: the whole gate, from nothing.
-.PHONY: run test
+# run: build `hits` and search the course's first paper. test: the whole gate, from nothing. bench: the library against C.
+.PHONY: run test bench
 
 run:
 	@command -v rt >/dev/null || { echo "make run: the Rattle toolchain is missing: no 'rt' on the PATH" >&2; exit 1; }
@@ -8,3 +8,12 @@ run:
 
 test:
 	@tests/run
+
+# MODE: check, time, hard or short (bench/bench.c says what each does).
+MODE ?= time
+bench:
+	@rt staticlib timing >/dev/null 2>&1
+	@mkdir -p target/bench
+	@gcc -O3 -Wall -c bench/yardstick.c -o target/bench/yardstick.o
+	@gcc -O2 -Wall bench/bench.c target/bench/yardstick.o target/staticlib/libtiming.a -o target/bench/bench
+	@target/bench/bench $(MODE)

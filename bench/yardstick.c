@@ -1,0 +1,285 @@
+// The four search rules in plain C, written for speed, with no proof and no care for bytes that a caller did not lend
+// other than those past the end. See yardstick.h.
+#include "yardstick.h"
+#include <string.h>
+
+struct run {
+    size_t at, steps, hits;
+    int full;
+};
+
+static inline uint64_t be64(const uint8_t *p) {
+    uint64_t x;
+    memcpy(&x, p, 8);
+    return __builtin_bswap64(x);
+}
+
+static uint64_t __attribute__((noinline)) be64_end(const uint8_t *s, size_t len, size_t b) {
+    uint8_t t[8] = {0};
+    if (b < len) memcpy(t, s + b, len - b < 8 ? len - b : 8);
+    return be64(t);
+}
+
+static inline uint64_t bytes64(const uint8_t *s, size_t len, size_t b) {
+    return b + 8 <= len ? be64(s + b) : be64_end(s, len, b);
+}
+
+// 64 bits from bit p on.
+static inline uint64_t bits64(const uint8_t *s, size_t len, size_t p) {
+    size_t b = p >> 3, r = p & 7;
+    if (b + 9 <= len) return be64(s + b) << r | (uint64_t)s[b + 8] >> (8 - r);
+    return be64_end(s, len, b) << r | (b + 8 < len ? (uint64_t)s[b + 8] >> (8 - r) : 0);
+}
+
+// Eight bits from bit p on.
+static inline unsigned bits8(const uint8_t *s, size_t p) {
+    unsigned x = (unsigned)s[p >> 3] << 8 | s[(p + 7) >> 3];
+    return x >> (7 - ((p + 7) & 7)) & 255;
+}
+
+static inline unsigned bit(const uint8_t *s, size_t p) { return s[p >> 3] >> (7 - (p & 7)) & 1; }
+
+// The head is the first 57 bits, or all of a shorter word: what eight bytes show at any place.
+struct word {
+    const uint8_t *bytes;
+    size_t m, len;
+    uint64_t head;
+    unsigned cut;
+};
+
+static struct word word_of(const uint8_t *bytes, size_t m) {
+    struct word w = {bytes, m, (m + 7) / 8, 0, m < 57 ? 64 - m : 7};
+    w.head = bytes64(bytes, w.len, 0) >> w.cut;
+    return w;
+}
+
+static int __attribute__((noinline)) same_rest(const uint8_t *t, size_t len, const struct word *w, size_t s) {
+    if (w->m <= 64) return (bits64(t, len, s) ^ bytes64(w->bytes, w->len, 0)) >> (64 - w->m) == 0;
+    size_t o = 0;
+    for (; o + 64 < w->m; o += 64)
+        if (bits64(t, len, s + o) != be64(w->bytes + o / 8)) return 0;
+    return bits64(t, len, s + w->m - 64) == bits64(w->bytes, w->len, w->m - 64);
+}
+
+static inline int same(const uint8_t *t, size_t len, const struct word *w, size_t s) {
+    size_t b = s >> 3;
+    if (b + 8 <= len) {
+        if (be64(t + b) << (s & 7) >> w->cut != w->head) return 0;
+        if (w->m <= 57) return 1;
+    }
+    return same_rest(t, len, w, s);
+}
+
+// Plain: rows of 64-bit pieces, cell 16 k + i a row's, 16 k + 8 + i its mask.
+static void plain_tables(const struct word *w, uint64_t *c) {
+    uint64_t x0 = 0, mask0 = 0;
+    for (size_t k = 0; 64 * k < w->m + 7; k++) {
+        size_t left = 64 * k < w->m ? w->m - 64 * k : 0;
+        uint64_t mask = left >= 64 ? ~0ull : left ? ~0ull << (64 - left) : 0;
+        uint64_t x = left ? bytes64(w->bytes, w->len, 8 * k) & mask : 0;
+        for (size_t i = 0; i < 8; i++) {
+            c[16 * k + i] = x0 << (63 - i) << 1 | x >> i;
+            c[16 * k + 8 + i] = mask0 << (63 - i) << 1 | mask >> i;
+        }
+        x0 = x, mask0 = mask;
+    }
+}
+
+static int plain_rest(const uint8_t *t, size_t len, const uint64_t *c, size_t m, size_t s) {
+    size_t i = s & 7, b = s >> 3;
+    for (size_t k = 1; 64 * k < m + i; k++)
+        if ((bytes64(t, len, b + 8 * k) ^ c[16 * k + i]) & c[16 * k + 8 + i]) return 0;
+    return 1;
+}
+
+static inline size_t plain_next(const uint8_t *t, size_t len, const uint64_t *c, size_t s, size_t limit) {
+    for (; s < limit && (s & 7); s++)
+        if (!((bytes64(t, len, s >> 3) ^ c[s & 7]) & c[8 + (s & 7)])) return s;
+    for (; s < limit; s += 8) {
+        uint64_t x = bytes64(t, len, s >> 3);
+        for (size_t i = 0; i < 8; i++)
+            if (!((x ^ c[i]) & c[8 + i])) return s + i;
+    }
+    return limit;
+}
+
+static struct run plain(const uint8_t *t, size_t len, const struct word *w, const uint64_t *c, size_t from,
+                        size_t limit, uint32_t *list, size_t cells) {
+    size_t hits = 0;
+    for (size_t s = plain_next(t, len, c, from, limit); s < limit; s = plain_next(t, len, c, s + 1, limit))
+        if (plain_rest(t, len, c, w->m, s)) {
+            if (hits == cells) return (struct run){s, s - from + 1, hits, 1};
+            list[hits++] = s;
+        }
+    return (struct run){limit, limit - from, hits, 0};
+}
+
+// Hash: cell B the move after reading B.
+static void hash_tables(const struct word *w, uint64_t *c) {
+    for (size_t i = 0; i < 256; i++) c[i] = w->m;
+    for (size_t k = 1; k < 8; k++)
+        for (size_t i = w->bytes[0] >> (8 - k); i < 256; i += (size_t)1 << k) c[i] = w->m - k;
+    size_t p = 0;
+    for (; p + 16 <= w->m; p += 8) {
+        unsigned x = w->bytes[p / 8] << 8 | w->bytes[p / 8 + 1];
+        for (size_t r = 0; r < 8; r++) c[x >> (8 - r) & 255] = w->m - 8 - p - r;
+    }
+    for (; p + 8 < w->m; p++) c[bits8(w->bytes, p)] = w->m - 8 - p;
+}
+
+static struct run hash(const uint8_t *t, size_t len, const struct word *w, const uint64_t *c, size_t from, size_t end,
+                       size_t budget, uint32_t *list, size_t cells) {
+    unsigned last = bits8(w->bytes, w->m - 8);
+    size_t s = from, steps = 0, hits = 0, e8 = w->m - 8;
+    while (s < end && steps < budget) {
+        unsigned v = bits8(t, s + e8);
+        steps++;
+        if (v == last && same(t, len, w, s)) {
+            if (hits == cells) return (struct run){s, steps, hits, 1};
+            list[hits++] = s;
+        }
+        s += c[v];
+    }
+    return (struct run){s < end ? s : end, steps, hits, 0};
+}
+
+// Skip: cell B one more than the greatest index of B, cell 256 + j the next lower one.
+static void skip_tables(const struct word *w, size_t count, uint64_t *c) {
+    memset(c, 0, 256 * sizeof *c);
+    size_t j = 0;
+    for (; j + 8 <= count; j += 8) {
+        unsigned x = w->bytes[j / 8] << 8 | w->bytes[j / 8 + 1];
+        for (size_t r = 0; r < 8; r++) {
+            unsigned v = x >> (8 - r) & 255;
+            c[256 + j + r] = c[v];
+            c[v] = j + r + 1;
+        }
+    }
+    for (; j < count; j++) {
+        unsigned v = bits8(w->bytes, j);
+        c[256 + j] = c[v];
+        c[v] = j + 1;
+    }
+}
+
+static struct run skip_go(const uint8_t *t, size_t len, const struct word *w, const uint64_t *c, size_t from, size_t end,
+                          size_t budget, uint32_t *list, size_t cells, size_t hits) {
+    size_t s = from, steps = 0, stride = (w->m + 1) / 8 - 1;
+    for (size_t b = (s + w->m) / 8 - 1; s < end && steps < budget; b += stride) {
+        size_t j = c[t[b]];
+        steps++;
+        if (j)
+            for (size_t low = end <= 8 * b ? 8 * b + 1 - end : 0; j > low; j = c[255 + j]) {
+                size_t a = 8 * b + 1 - j;
+                if (same(t, len, w, a)) {
+                    if (hits == cells) return (struct run){a, steps, hits, 1};
+                    list[hits++] = a;
+                }
+            }
+        s = 8 * b + 1;
+    }
+    return (struct run){s < end ? s : end, steps, hits, 0};
+}
+
+// The first step goes from any mark and has a table of its own, of the indices that it can need.
+static struct run skip(const uint8_t *t, size_t len, const struct word *w, uint64_t *c, size_t from, size_t end,
+                       size_t budget, uint32_t *list, size_t cells) {
+    skip_tables(w, (from + w->m) / 8 * 8 - 7 - from, c);
+    struct run r = skip_go(t, len, w, c, from, end, budget < 1 ? 0 : 1, list, cells, 0);
+    if (r.full || budget <= 1 || r.at == end) return r;
+    skip_tables(w, (w->m + 1) / 8 * 8 - 8, c);
+    r = skip_go(t, len, w, c, r.at, end, budget - 1, list, cells, r.hits);
+    r.steps++;
+    return r;
+}
+
+// Wide: cell 2 q + c the flags that stand when window bit q is c.
+static void wide_tables(const struct word *w, uint64_t *c) {
+    uint64_t zero = ~0ull, one = ~0ull;
+    size_t q = 0;
+    for (; q + 8 <= w->m; q += 8)
+        for (size_t j = 0; j < 8; j++) {
+            uint64_t b = w->bytes[q / 8] >> (7 - j) & 1;
+            c[2 * (q + j)] = zero = zero << 1 | (1 - b);
+            c[2 * (q + j) + 1] = one = one << 1 | b;
+        }
+    for (; q < w->m; q++) {
+        uint64_t b = bit(w->bytes, q);
+        c[2 * q] = zero = zero << 1 | (1 - b);
+        c[2 * q + 1] = one = one << 1 | b;
+    }
+    for (; q < w->m + 63; q++) {
+        c[2 * q] = zero = zero << 1 | 1;
+        c[2 * q + 1] = one = one << 1 | 1;
+    }
+}
+
+static size_t wide_move(const struct word *w, unsigned c) {
+    size_t k = w->m;
+    while (k && bit(w->bytes, k - 1) != c) k--;
+    return w->m + 64 - k;
+}
+
+static inline uint64_t wide_keep(const uint8_t *t, const uint64_t *c, size_t s, size_t q, uint64_t f) {
+    unsigned x = bits8(t, s + q);
+    for (size_t j = 0; j < 8; j++) f &= c[2 * (q + j) + (x >> (7 - j) & 1)];
+    return f;
+}
+
+// Some bits of a window that lies whole in the text: enough to leave few flags. A word below 64 bits needs the whole
+// window, every second byte and then the others; a longer one the bits from the middle on, which speak for all flags.
+static inline uint64_t wide_scan(const uint8_t *t, size_t m, const uint64_t *c, size_t s) {
+    uint64_t f = ~0ull;
+    if (m < 64)
+        for (size_t from = 0; from <= 8 && (f & (f - 1)); from += 8)
+            for (size_t q = from; q <= 72 && q + 8 <= m + 63; q += 16) f = wide_keep(t, c, s, q, f);
+    else
+        for (size_t q = 56; q + 16 <= m + 63 && (f & (f - 1)); q += 16)
+            f = wide_keep(t, c, s, q + 8, wide_keep(t, c, s, q, f));
+    return f;
+}
+
+static struct run wide(const uint8_t *t, size_t len, size_t n, const struct word *w, const uint64_t *c, size_t from,
+                       size_t end, size_t budget, uint32_t *list, size_t cells) {
+    size_t move[2] = {wide_move(w, 0), wide_move(w, 1)}, ws = w->m + 63;
+    size_t s = from, steps = 0, hits = 0;
+    while (s < end && steps < budget) {
+        uint64_t f = ~0ull;
+        size_t next = end;
+        if (s + ws < n) {
+            next = s + move[bit(t, s + ws)];
+            f = wide_scan(t, w->m, c, s);
+        }
+        steps++;
+        for (; f; f &= f - 1) {
+            size_t a = s + __builtin_ctzll(f);
+            if (a >= end) break;
+            if (same(t, len, w, a)) {
+                if (hits == cells) return (struct run){a, steps, hits, 1};
+                list[hits++] = a;
+            }
+        }
+        s = next;
+    }
+    return (struct run){s < end ? s : end, steps, hits, 0};
+}
+
+void c_search(const uint8_t *text, uint64_t n, const uint8_t *word, uint64_t m, int method, uint32_t mark,
+              uint32_t budget, uint32_t *list, size_t cells, uint64_t *scratch, struct answer *out) {
+    size_t len = (n + 7) / 8, end = m <= n ? n - m + 1 : 0;
+    struct word w = word_of(word, m);
+    struct run r;
+    if (method == PLAIN) {
+        plain_tables(&w, scratch);
+        r = plain(text, len, &w, scratch, mark, budget < end - mark ? mark + budget : end, list, cells);
+    } else if (method == HASH) {
+        hash_tables(&w, scratch);
+        r = hash(text, len, &w, scratch, mark, end, budget, list, cells);
+    } else if (method == SKIP) {
+        r = skip(text, len, &w, scratch, mark, end, budget, list, cells);
+    } else {
+        wide_tables(&w, scratch);
+        r = wide(text, len, n, &w, scratch, mark, end, budget, list, cells);
+    }
+    *out = (struct answer){0, r.steps, r.hits, r.at, r.full ? FULL : r.at == end ? DONE : SPENT};
+}
