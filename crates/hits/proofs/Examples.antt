@@ -1,10 +1,9 @@
 -- The definitions on small inputs.
 -- Assumes nothing.
-use Prim.Native.Nat.{ℕ}
 use mathlib.Core.Path.{_≡_, refl}
-use mathlib.Core.List.{List, [], _∷_}
+use mathlib.Core.List.{[], _∷_}
 use Rattle.rules.specs.declared.Method.the-variants.{Plain, Skip}
-use Rattle.hits.specs.Input.{Parsed, bad, lines, parse, prepend, readLine, firstLine, secondLine}
+use Rattle.hits.specs.Input.{bad, lines, parse, prepend, readLine, firstLine, secondLine}
 use Rattle.hits.specs.Line.{decimalOf, digitsOf, numbers, acceptedLine, refusedLine}
 
 -- 10, 011

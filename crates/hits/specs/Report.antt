@@ -1,7 +1,6 @@
 -- What is printed of a search call: its line, by what the call answers.
 use Prim.Native.Nat.{ℕ}
-use mathlib.Core.List.{List, _∷_}
-use lib.ListN.{take}
+use mathlib.Core.List.{List}
 use Rattle.rules.specs.declared.Method.{Method}
 use Rattle.rules.specs.Machine.{Run}
 use Rattle.search.specs.declared.Outcome.{Outcome}

@@ -9,7 +9,6 @@ ghost use Prim.Native.Nat.{_+_, _*_, _≤_};
 ghost use lib.ListN.{length, take};
 ghost use Rattle.io.specs.Counts.{Counts};
 ghost use Rattle.search.specs.Verdict.{numberOfRefusal, verdict};
-ghost use Rattle.matcher.specs.Progress.{textOf, patternOf};
 ghost use Rattle.hits.specs.Report.{numberIn, lineOf};
 
 // "budget 2^32 − 1"
@@ -53,7 +52,7 @@ pub(crate) fn search_line(
 ) -> usize
     requires { ⌜ 48 + length (now list) * 21 ≤ length (now out) ⌝ }
     ensures counts { λ r. ⌜ Counts r (now (out .exit)) ⌝ }
-    ensures is { λ r. ⌜ take r (now (out .exit)) ≡ lineOf method (verdict (record { text = textOf (now (text .entry)) n; pattern = patternOf (now (word .entry)) m; method = method; mark = 0; budget = 4294967295; list = now (list .entry); scratch = now (scratch .entry) })) ⌝ }
+    ensures is { λ r. ⌜ take r (now (out .exit)) ≡ lineOf method (verdict (record { text = record { bytes = now (text .entry); count = n }; pattern = record { bytes = now (word .entry); count = m }; method = method; mark = 0; budget = 4294967295; list = now (list .entry); scratch = now (scratch .entry) })) ⌝ }
 {
     let outcome = Mark::new().search(text, n, word, m, method, BUDGET, list, scratch);
     let Outcome::Accepted(answer) = outcome else {

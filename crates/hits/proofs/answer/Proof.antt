@@ -4,11 +4,6 @@ use native.Mathlib.Omega.{arith}
 use borrow.Author.Needs.{needs}
 use Rattle.hits.proofs.answer.Statement.{statement}
 use Rattle.hits.proofs.answer.Tie as tie
-use Rattle.hits.proofs.answer.Reads as reads
-use Rattle.hits.proofs.answer.Lts as lts
-use Rattle.hits.proofs.parse.parse.Reads as parse-reads
-use Rattle.hits.proofs.print_lines.Reads as print-lines-reads
-use Rattle.io.proofs.write_all.Reads as write-all-reads
 
 parse-requires : tie.Need-parse-requires
 parse-requires c κs = search needs

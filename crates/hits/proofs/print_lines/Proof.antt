@@ -7,10 +7,6 @@ use lib.Seq.{length-take-le}
 use borrow.Author.Needs.{needs}
 use Rattle.hits.proofs.print_lines.Statement.{statement}
 use Rattle.hits.proofs.print_lines.Tie as tie
-use Rattle.hits.proofs.print_lines.Reads as reads
-use Rattle.hits.proofs.print_lines.Lts as lts
-use Rattle.hits.proofs.pack.pack.Reads as pack-reads
-use Rattle.hits.proofs.print.Reads as print-reads
 
 add-start : tie.Need-add-start
 add-start c = search needs

@@ -6,12 +6,6 @@ use Rattle.hits.proofs.Putting.{puts-then, line-of, accepted-parts}
 use borrow.Author.Needs.{needs}
 use Rattle.hits.proofs.line.accepted.Statement.{statement}
 use Rattle.hits.proofs.line.accepted.Tie as tie
-use Rattle.hits.proofs.line.accepted.Reads as reads
-use Rattle.hits.proofs.line.accepted.Lts as lts
-use Rattle.hits.proofs.line.put_byte.Reads as put-byte-reads
-use Rattle.hits.proofs.line.put_name.Reads as put-name-reads
-use Rattle.hits.proofs.line.put_number.Reads as put-number-reads
-use Rattle.hits.proofs.line.put_numbers.Reads as put-numbers-reads
 
 put-name-requires : tie.Need-put-name-requires
 put-name-requires c κs = search needs

@@ -1,7 +1,7 @@
 -- `hits::line::put` meets its contract. The loop's invariant: the bytes passed are stored.
 -- Assumes nothing.
-use Prim.Native.Nat.{ℕ, suc, _+_, _-_, _≤_, _<_}
-use mathlib.Core.Path.{_≡_, refl, sym, ap, _∙_}
+use Prim.Native.Nat.{_+_, _-_, _≤_}
+use mathlib.Core.Path.{_≡_}
 use native.Mathlib.Omega.{arith}
 use borrow.Author.Needs.{needs}
 use lib.ListN.{length, take, length-set}
@@ -9,8 +9,6 @@ use Rattle.hits.specs.Inner.{Puts}
 use Rattle.hits.proofs.Putting.{puts-none, puts-more, puts-all}
 use Rattle.hits.proofs.line.put.Statement.{statement}
 use Rattle.hits.proofs.line.put.Tie as tie
-use Rattle.hits.proofs.line.put.Reads as reads
-use Rattle.hits.proofs.line.put.Lts as lts
 
 abbrev Inv-loop : tie.InvT-loop
 Inv-loop out₀ at bytes i₀ out i = ((i ≤ length bytes) × (length out ≡ length out₀)) × Puts out₀ at (take i bytes) (at + i) out

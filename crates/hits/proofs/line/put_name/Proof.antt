@@ -4,9 +4,6 @@ use native.Mathlib.Omega.{arith}
 use borrow.Author.Needs.{needs}
 use Rattle.hits.proofs.line.put_name.Statement.{statement}
 use Rattle.hits.proofs.line.put_name.Tie as tie
-use Rattle.hits.proofs.line.put_name.Reads as reads
-use Rattle.hits.proofs.line.put_name.Lts as lts
-use Rattle.hits.proofs.line.put.Reads as put-reads
 
 enum-told : tie.Need-enum-told
 enum-told c = search needs

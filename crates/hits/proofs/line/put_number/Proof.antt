@@ -7,11 +7,6 @@ use Rattle.hits.proofs.Putting.{puts-then}
 use borrow.Author.Needs.{needs}
 use Rattle.hits.proofs.line.put_number.Statement.{statement}
 use Rattle.hits.proofs.line.put_number.Tie as tie
-use Rattle.hits.proofs.line.put_number.Reads as reads
-use Rattle.hits.proofs.line.put_number.Lts as lts
-use Rattle.hits.proofs.line.put.Reads as put-reads
-use Rattle.hits.proofs.line.put_byte.Reads as put-byte-reads
-use Rattle.io.proofs.decimal.Reads as decimal-reads
 
 decimal-requires : tie.Need-decimal-requires
 decimal-requires c κs = search needs

@@ -1,18 +1,14 @@
 -- `hits::line::put_numbers` meets its contract. The loop's invariant: the numbers passed are stored.
 -- Assumes nothing.
-use Prim.Native.Nat.{ℕ, _+_, _-_, _*_, _≤_, _<_}
-use mathlib.Core.Path.{_≡_, refl, sym, ap, _∙_}
+use Prim.Native.Nat.{_+_, _-_, _*_, _≤_}
+use mathlib.Core.Path.{_≡_}
 use native.Mathlib.Omega.{arith}
 use lib.ListN.{length, take}
 use Rattle.hits.specs.Line.{numbers}
 use Rattle.hits.specs.Inner.{Puts}
 use Rattle.hits.proofs.Putting.{puts-none, puts-numbers}
-use borrow.Author.Needs.{needs}
 use Rattle.hits.proofs.line.put_numbers.Statement.{statement}
 use Rattle.hits.proofs.line.put_numbers.Tie as tie
-use Rattle.hits.proofs.line.put_numbers.Reads as reads
-use Rattle.hits.proofs.line.put_numbers.Lts as lts
-use Rattle.hits.proofs.line.put_number.Reads as put-number-reads
 
 abbrev Inv-loop : tie.InvT-loop
 Inv-loop out₀ start list count at₀ i₀ out at i =

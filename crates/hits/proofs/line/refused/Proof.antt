@@ -5,12 +5,6 @@ use Rattle.hits.proofs.Putting.{puts-then, line-of, refused-parts}
 use borrow.Author.Needs.{needs}
 use Rattle.hits.proofs.line.refused.Statement.{statement}
 use Rattle.hits.proofs.line.refused.Tie as tie
-use Rattle.hits.proofs.line.refused.Reads as reads
-use Rattle.hits.proofs.line.refused.Lts as lts
-use Rattle.hits.proofs.line.put.Reads as put-reads
-use Rattle.hits.proofs.line.put_byte.Reads as put-byte-reads
-use Rattle.hits.proofs.line.put_name.Reads as put-name-reads
-use Rattle.hits.proofs.line.put_number.Reads as put-number-reads
 
 put-name-requires : tie.Need-put-name-requires
 put-name-requires c κs = search needs

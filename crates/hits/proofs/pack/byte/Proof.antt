@@ -1,7 +1,7 @@
 -- `hits::pack::byte` meets its contract. The loop's invariant: the characters passed are joined.
 -- Assumes nothing.
 use Prim.Native.Nat.{ℕ, _+_, _-_, _*_, _^_, _≤_, _<_}
-use mathlib.Core.Path.{_≡_, refl, sym, ap, ap₂, _∙_}
+use mathlib.Core.Path.{_≡_, refl, ap, ap₂, _∙_}
 use native.Mathlib.Omega.{arith}
 use native.Mathlib.Numerals.{add-one}
 use native.Mathlib.Nat.{lt-of-lt-of-le}
@@ -11,9 +11,6 @@ use Rattle.hits.specs.Inner.{charBits}
 use Rattle.hits.proofs.Bits.{chars-lt}
 use Rattle.hits.proofs.pack.byte.Statement.{statement}
 use Rattle.hits.proofs.pack.byte.Tie as tie
-use Rattle.hits.proofs.pack.byte.Reads as reads
-use Rattle.hits.proofs.pack.byte.Lts as lts
-use Rattle.hits.proofs.pack.bit.Reads as bit-reads
 
 abbrev Inv-loop : tie.InvT-loop
 Inv-loop chars p x₀ k₀ x k = (k ≤ 8) × (x ≡ charBits chars p k)

@@ -1,7 +1,7 @@
 -- `hits::pack::pack` meets its contract. The loop's invariant: the bytes passed are packed, and the others stay.
 -- Assumes nothing.
-use Prim.Native.Nat.{ℕ, _+_, _-_, _*_, _/_, _≤_, _<_}
-use mathlib.Core.Path.{_≡_, refl, sym, ap, _∙_}
+use Prim.Native.Nat.{_-_, _≤_}
+use mathlib.Core.Path.{_≡_, refl}
 use native.Mathlib.Omega.{arith}
 use lib.ListN.{length, length-set}
 use Rattle.bits.specs.Packed.{bytesFor}
@@ -9,9 +9,6 @@ use Rattle.hits.proofs.Bits.{Filled, filled-none, filled-more, filled-p
 use borrow.Author.Needs.{needs}
 use Rattle.hits.proofs.pack.pack.Statement.{statement}
 use Rattle.hits.proofs.pack.pack.Tie as tie
-use Rattle.hits.proofs.pack.pack.Reads as reads
-use Rattle.hits.proofs.pack.pack.Lts as lts
-use Rattle.hits.proofs.pack.byte.Reads as byte-reads
 
 abbrev Inv-loop : tie.InvT-loop
 Inv-loop chars out₀ count b₀ out b =

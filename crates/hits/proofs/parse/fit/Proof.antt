@@ -1,11 +1,8 @@
 -- `hits::parse::fit` meets its contract.
 -- Assumes nothing.
 use borrow.Author.Tests.{lt-leb, le-leb}
-use borrow.Author.Needs.{needs}
 use Rattle.hits.proofs.parse.fit.Statement.{statement}
 use Rattle.hits.proofs.parse.fit.Tie as tie
-use Rattle.hits.proofs.parse.fit.Reads as reads
-use Rattle.hits.proofs.parse.fit.Lts as lts
 
 returns : tie.Need-returns
 returns c = rw (lt-leb _ _ (c .if1 .taken))

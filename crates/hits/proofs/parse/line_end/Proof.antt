@@ -9,8 +9,6 @@ use lib.ListN.{length}
 use Rattle.hits.proofs.Reading.{Passed, passed-none, passed-more, passed-end, passed-stop, read-stop, read-past}
 use Rattle.hits.proofs.parse.line_end.Statement.{statement}
 use Rattle.hits.proofs.parse.line_end.Tie as tie
-use Rattle.hits.proofs.parse.line_end.Reads as reads
-use Rattle.hits.proofs.parse.line_end.Lts as lts
 
 abbrev Inv-loop : tie.InvT-loop
 Inv-loop s from i₀ i = ((from ≤ i) × (i ≤ length s)) × Passed s from i

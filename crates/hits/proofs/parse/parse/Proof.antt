@@ -12,10 +12,6 @@ use native.Mathlib.Omega.{arith}
 use borrow.Author.Needs.{needs}
 use Rattle.hits.proofs.parse.parse.Statement.{statement}
 use Rattle.hits.proofs.parse.parse.Tie as tie
-use Rattle.hits.proofs.parse.parse.Reads as reads
-use Rattle.hits.proofs.parse.parse.Lts as lts
-use Rattle.hits.proofs.parse.fit.Reads as fit-reads
-use Rattle.hits.proofs.parse.line_end.Reads as line-end-reads
 
 -- the input, where its first line ends, and what is read there
 abbrev S : tie.After-known-told → List ℕ

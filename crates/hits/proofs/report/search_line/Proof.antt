@@ -1,20 +1,11 @@
 -- `hits::report::search_line` meets its contract: the call's promise decides which line is printed.
 -- Assumes nothing.
 use native.Mathlib.Omega.{arith}
-use mathlib.Core.Path.{_∙_, ap}
+use mathlib.Core.Path.{_∙_}
 use Rattle.hits.proofs.Answers.{refused-line, accepted-line, accepted-room}
-use Rattle.hits.specs.Line.{refusedLine}
-use Rattle.hits.specs.Report.{numberIn}
 use borrow.Author.Needs.{needs}
 use Rattle.hits.proofs.report.search_line.Statement.{statement}
 use Rattle.hits.proofs.report.search_line.Tie as tie
-use Rattle.hits.proofs.report.search_line.Reads as reads
-use Rattle.hits.proofs.report.search_line.Lts as lts
-use Rattle.hits.proofs.line.accepted.Reads as accepted-reads
-use Rattle.hits.proofs.line.refused.Reads as refused-reads
-use Rattle.hits.proofs.report.number_in.Reads as number-in-reads
-use Rattle.search.proofs.Mark.new.Reads as new-reads
-use Rattle.search.proofs.Mark.search.Reads as search-reads
 
 new-requires : tie.Need-new-requires
 new-requires c κs = search needs
