@@ -1,4 +1,4 @@
--- The parser accepts exactly the input that 01 describes, and a beginning of the input is enough to judge it.
+-- The parser accepts exactly the input that document 01 describes, and a beginning of the input is enough to judge it.
 -- Assumes nothing.
 use Prim.Native.Nat.{ℕ, zero, suc, _+_, _-_, _≤_, _<_}
 use mathlib.Core.Path.{_≡_, refl, sym, ap, _∙_}

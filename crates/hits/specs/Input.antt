@@ -1,7 +1,7 @@
 -- Which input is good, and the two bit strings that it holds.
--- 01: the program "reads two lines of characters 0 and 1 from standard input, each ended by byte 10, nothing after: the
+-- Document 01: the program "reads two lines of characters 0 and 1 from standard input, each ended by byte 10, nothing after: the
 -- word (1 to 2,048) and the recording (0 to 4,096). Anything else prints the one line `bad input`."
--- 01's word is the pattern, and its recording the text.
+-- Document 01's word is the pattern, and its recording the text.
 use Prim.Native.Nat.{ℕ, _+_, _%_, _≤_, _<_}
 use mathlib.Core.Path.{_≡_}
 use mathlib.Core.Bool.{Bool, _&&_, _||_, cond}
@@ -64,7 +64,7 @@ abbrev pub Bits : List ℕ → Type 0
 Bits [] = Unit
 Bits (b ∷ bs) = (b < 2) × Bits bs
 
--- the input that holds the pattern w and the text t, as 01 has it
+-- the input that holds the pattern w and the text t, as document 01 has it
 pub record Good (s w t : List ℕ) : Type 0 where
   pub shape : s ≡ map charOf w ++ (10 ∷ (map charOf t ++ (10 ∷ [])))
   pub word-bits : Bits w

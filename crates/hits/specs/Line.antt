@@ -1,5 +1,5 @@
 -- The bytes of a printed line.
--- 01: "A line, single spaces between, is the method, steps, hit count and the hits; where the search refuses, it is the
+-- Document 01: "A line, single spaces between, is the method, steps, hit count and the hits; where the search refuses, it is the
 -- method, `refused` and the number." "Each printed line ends with byte 10".
 use Prim.Native.Nat.{ℕ, zero, suc, _+_, _/_, _%_}
 use mathlib.Core.Bool.{cond}

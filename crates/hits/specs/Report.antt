@@ -13,7 +13,7 @@ abbrev pub numberIn : Outcome → ℕ
 numberIn (Accepted a) = 0
 numberIn (Refused r) = numberOfRefusal r
 
--- 01: "A line .. is the method, steps, hit count and the hits; where the search refuses, it is the method, `refused` and
+-- Document 01: "A line .. is the method, steps, hit count and the hits; where the search refuses, it is the method, `refused` and
 -- the number." The verdict is that of the definitions to which the search call is equated.
 unfoldable pub lineOf : Method → Verdict Run → List ℕ
 lineOf x (accepted r) = acceptedLine x (r .steps) (r .written)
