@@ -163,7 +163,7 @@ fn scan_short(text: &[u8], word: &[u8], m: u32, cells: &[u64], s: Place) -> u64
     pass(text, word, m, cells, s, 8, f)
 }
 
-// A longer pattern: window bits from the middle on, each of which speaks for nearly all flags.
+// A longer pattern: window bits from 56 on, each of which speaks for nearly all flags.
 fn scan_long(text: &[u8], word: &[u8], m: u32, cells: &[u64], s: Place) -> u64
     requires { ⌜ WideTables (patternOf (now word) m) (now cells) ⌝ }
     requires { ⌜ (m ≤ 2048) × (s .0 ≤ 2 ^ 30) ⌝ }
