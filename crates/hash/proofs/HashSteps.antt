@@ -19,11 +19,11 @@ use Rattle.rules.specs.Pattern.{Pattern}
 use Rattle.rules.specs.Occurrence.{places, matches}
 use Rattle.rules.specs.Hash.{meets, hashOf, hashAgain, lastEight, hashFinds, hashNext}
 use Rattle.rules.specs.Step.{finds, ahead, next}
-use Rattle.matcher.specs.Progress.{textOf, Ready, GoodPattern, Reaches, Quiet, Stepped}
+use Rattle.matcher.specs.Progress.{textOf, Ready, GoodPattern, Reaches, Quiet, Stepped, Writing}
 use Rattle.rules.proofs.Occurrence.{occurs-inside}
 use Rattle.rules.proofs.Hash.{LeastMeeting, again-least, hash-compares}
 use Rattle.matcher.proofs.Progress.{reaches-quiet}
-use Rattle.matcher.proofs.Writing.{Writing, writing-none, writing-more, stepped-whole, stepped-full}
+use Rattle.matcher.proofs.Writing.{writing-none, writing-more, stepped-whole, stepped-full}
 
 -- a comparison does not look at the text's bit count
 pub matches-any : (bytes : List ℕ) (n : ℕ) (w : Pattern) (s : ℕ) → matches (textOf bytes 0) w s ≡ matches (textOf bytes n) w s

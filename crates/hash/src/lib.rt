@@ -1,6 +1,7 @@
 // The hash method. Cell B of the table holds the move behind the value B: the least d in 1..m that meets the condition.
 use bits::Place;
 use bits::load;
+use matcher::Advance;
 use matcher::Found;
 use matcher::Hop;
 use matcher::compare;
@@ -14,7 +15,7 @@ ghost use Rattle.rules.specs.Occurrence.{places};
 ghost use Rattle.rules.specs.Step.{next};
 ghost use Rattle.hash.specs.HashMoves.{Entered};
 ghost use Rattle.matcher.specs.Tables.{cellsFor, Prepared};
-ghost use Rattle.matcher.specs.Progress.{textOf, patternOf, HeadOf, GoodPattern, Ready, Quiet, Stepped};
+ghost use Rattle.matcher.specs.Progress.{textOf, patternOf, HeadOf, GoodPattern, Ready, Quiet, Stepped, Advanced};
 
 // The first cells once more behind themselves.
 fn double(cells: &mut [u64], size: usize)
@@ -166,6 +167,32 @@ pub fn step(
     }
     Found {
         at: next,
+        hits: had,
+        full: false,
+    }
+}
+
+// Many steps.
+pub fn advance(
+    text: &[u8],
+    n: u32,
+    word: &[u8],
+    m: u32,
+    h: Head,
+    cells: &[u64],
+    s: Place,
+    budget: u32,
+    list: &mut [u32],
+    had: usize,
+) -> Advance
+    requires { ⌜ Ready Method.Hash (textOf (now text) n) (patternOf (now word) m) (now cells) ⌝ }
+    requires { ⌜ HeadOf (patternOf (now word) m) (h .bits) (h .cut) ⌝ }
+    requires { ⌜ (s .0 ≤ places (textOf (now text) n) (patternOf (now word) m)) × (had ≤ length (now list)) ⌝ }
+    ensures { λ r. ⌜ Advanced Method.Hash (textOf (now (text .entry)) n) (patternOf (now (word .entry)) m) (s .0) budget (now (list .entry)) had (r .at .0) (r .steps) (r .hits) (r .full) (now (list .exit)) ⌝ }
+{
+    Advance {
+        at: s,
+        steps: 0,
         hits: had,
         full: false,
     }

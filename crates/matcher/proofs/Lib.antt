@@ -2,3 +2,4 @@
 pub mod Chunks
 pub mod Progress
 pub mod Writing
+pub mod Advancing

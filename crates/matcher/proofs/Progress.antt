@@ -45,7 +45,8 @@ module _ (x : Method) (t : Packed) (w : Pattern) where
       reaches-join s p (next x t w p) k 1 [] [] f (rw e at (reaches-step p h))
 
   module _ (s k at : ℕ) (found : List ℕ) (part : Reaches x t w s k found at) (budget cells : ℕ) (fits : length found ≤ cells) where
-    whole : (r : ℕ) → budget ≡ k + r → run x t w budget s cells ≡ after k found (run x t w r at (cells - length found))
+    -- the rest of the run goes on from the part's end
+    pub whole : (r : ℕ) → budget ≡ k + r → run x t w budget s cells ≡ after k found (run x t w r at (cells - length found))
     unfolding Reaches
     whole r e = ap (λ (n : ℕ). run x t w n s cells) e ∙ part r cells fits
 

@@ -16,13 +16,7 @@ use Rattle.rules.specs.declared.Method.{Method}
 use Rattle.rules.specs.Ranges.{keep}
 use Rattle.rules.specs.Pattern.{Pattern}
 use Rattle.rules.specs.Step.{finds, next}
-use Rattle.matcher.specs.Progress.{Stepped}
-
--- the places found so far stand in the list from cell `had` on, and `hits` cells are written
-pub record Writing (before : List ℕ) (had : ℕ) (found list : List ℕ) (hits : ℕ) : Type 0 where
-  pub cells : list ≡ sets before had found
-  pub count : hits ≡ had + length found
-  pub fits : hits ≤ length before
+use Rattle.matcher.specs.Progress.{Writing, Stepped}
 
 pub writing-none : (before : List ℕ) (had : ℕ) → had ≤ length before → Writing before had [] before had
 writing-none before had h = record { cells = refl; count = sym (add-zero had); fits = h }
@@ -45,6 +39,24 @@ writing-more before had found list hits p u h =
 
 pub writing-length : (before : List ℕ) (had : ℕ) (found list : List ℕ) (hits : ℕ) → Writing before had found list hits → length list ≡ length before
 writing-length before had found list hits u = ap length (u .cells) ∙ length-sets before had found
+
+sets-append : (l : List ℕ) (i : ℕ) (us vs : List ℕ) → sets l i (us ++ vs) ≡ sets (sets l i us) (i + length us) vs
+sets-append l i [] vs = rw (add-zero i)
+sets-append l i (u ∷ us) vs =
+    let there : suc i + length us ≡ i + suc (length us) = omega arith in
+    sets-append (set l i u) (suc i) us vs ∙ ap (λ (n : ℕ). sets (sets (set l i u) (suc i) us) n vs) there
+
+-- places written behind others
+pub writing-append : (before : List ℕ) (had : ℕ) (found list : List ℕ) (hits : ℕ) (more list' : List ℕ) (hits' : ℕ) → Writing before had found list hits
+    → Writing list hits more list' hits' → Writing before had (found ++ more) list' hits'
+writing-append before had found list hits more list' hits' u v =
+    let same : length list ≡ length before = writing-length before had found list hits u in
+    let size : length (found ++ more) ≡ length found + length more = length-append found more in
+    record {
+      cells = v .cells ∙ ap₂ (λ (l : List ℕ) (n : ℕ). sets l n more) (u .cells) (u .count) ∙ sym (sets-append before had found more);
+      count = omega (arith, u .count, v .count);
+      fits = omega (arith, v .fits);
+    }
 
 module _ (x : Method) (t : Packed) (w : Pattern) (s : ℕ) (before : List ℕ) (had : ℕ) where
   -- all that the step finds is written

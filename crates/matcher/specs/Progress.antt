@@ -53,6 +53,12 @@ pub record Quiet (x : Method) (t : Packed) (w : Pattern) (s budget at steps : �
   pub within : steps ≤ budget
   pub inside : at ≤ places t w
 
+-- places written to a list one behind the other: those found stand in it from cell `had` on, and `hits` cells are written
+pub record Writing (before : List ℕ) (had : ℕ) (found list : List ℕ) (hits : ℕ) : Type 0 where
+  pub cells : list ≡ sets before had found
+  pub count : hits ≡ had + length found
+  pub fits : hits ≤ length before
+
 -- One step at s, with the list's cells from `had` on free: the places that found a cell stand there, and the mark is the
 -- next one, or the first place without a cell.
 pub record Stepped (x : Method) (t : Packed) (w : Pattern) (s : ℕ) (before : List ℕ) (had at hits : ℕ) (full : Bool) (list : List ℕ) : Type 0 where
@@ -60,3 +66,14 @@ pub record Stepped (x : Method) (t : Packed) (w : Pattern) (s : ℕ) (before : L
   pub mark : at ≡ cond full (getD (finds x t w s) (length before - had) 0) (next x t w s)
   pub count : hits ≡ had + length (take (length before - had) (finds x t w s))
   pub cells : list ≡ sets before had (take (length before - had) (finds x t w s))
+
+-- Steps from the mark s, at most so many, with the list's cells from `had` on free: the places found stand there. Either
+-- each has a cell, and the machine goes on from the mark that the steps leave; or the last step found one that has none,
+-- and the machine's run ends at it.
+pub record Advanced (x : Method) (t : Packed) (w : Pattern) (s budget : ℕ) (before : List ℕ) (had at steps hits : ℕ) (no-cell : Bool) (list : List ℕ) : Type 0 where
+  pub found : List ℕ
+  pub writing : Writing before had found list hits
+  pub within : steps ≤ budget
+  pub inside : no-cell ≡ false → at ≤ places t w
+  pub goes : no-cell ≡ false → Reaches x t w s steps found at
+  pub stops : no-cell ≡ true → run x t w budget s (length before - had) ≡ record { steps = steps; written = found; mark = at; ending = full at }

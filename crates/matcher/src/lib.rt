@@ -1,5 +1,5 @@
 // What the four methods share: the comparison at a place, and what their steps give back. A method is a crate of its own
-// with three functions: `prepare` makes its tables, `quiet` makes steps as long as they find nothing, `step` makes one.
+// with three functions: `prepare` makes its tables, `step` makes one step from any mark, `advance` makes many.
 pub mod compare;
 
 use bits::Place;
@@ -14,6 +14,14 @@ pub struct Hop {
 // then that place.
 pub struct Found {
     pub at: Place,
+    pub hits: usize,
+    pub full: bool,
+}
+
+// What steps made one behind the other leave: the same, and how many they are.
+pub struct Advance {
+    pub at: Place,
+    pub steps: u32,
     pub hits: usize,
     pub full: bool,
 }

@@ -3,6 +3,7 @@
 use bits::ByteNo;
 use bits::Place;
 use bits::load;
+use matcher::Advance;
 use matcher::Found;
 use matcher::Hop;
 use matcher::compare::Head;
@@ -19,7 +20,7 @@ ghost use Rattle.rules.specs.Ranges.{every};
 ghost use Rattle.rules.specs.Occurrence.{places};
 ghost use Rattle.matcher.specs.Tables.{rowChunks, cellsFor, Prepared};
 ghost use Rattle.plain.specs.RowCells.{cellFits, shiftedBit, Filled};
-ghost use Rattle.matcher.specs.Progress.{textOf, patternOf, HeadOf, GoodPattern, Ready, Quiet, Stepped};
+ghost use Rattle.matcher.specs.Progress.{textOf, patternOf, HeadOf, GoodPattern, Ready, Quiet, Stepped, Advanced};
 
 // Ones where the 64 bits from bit 64 k on are the pattern's, zeros past its end.
 fn ones(m: u32, k: u32) -> u64
@@ -233,6 +234,32 @@ pub fn step(
     }
     Found {
         at: Place(at + 1),
+        hits: had,
+        full: false,
+    }
+}
+
+// Many steps.
+pub fn advance(
+    text: &[u8],
+    n: u32,
+    word: &[u8],
+    m: u32,
+    h: Head,
+    cells: &[u64],
+    s: Place,
+    budget: u32,
+    list: &mut [u32],
+    had: usize,
+) -> Advance
+    requires { ⌜ Ready Method.Plain (textOf (now text) n) (patternOf (now word) m) (now cells) ⌝ }
+    requires { ⌜ HeadOf (patternOf (now word) m) (h .bits) (h .cut) ⌝ }
+    requires { ⌜ (s .0 ≤ places (textOf (now text) n) (patternOf (now word) m)) × (had ≤ length (now list)) ⌝ }
+    ensures { λ r. ⌜ Advanced Method.Plain (textOf (now (text .entry)) n) (patternOf (now (word .entry)) m) (s .0) budget (now (list .entry)) had (r .at .0) (r .steps) (r .hits) (r .full) (now (list .exit)) ⌝ }
+{
+    Advance {
+        at: s,
+        steps: 0,
         hits: had,
         full: false,
     }

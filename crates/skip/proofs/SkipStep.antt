@@ -17,11 +17,11 @@ use Rattle.rules.specs.Occurrence.{places, matches, occurs, occurrences}
 use Rattle.rules.specs.Skip.{lastByte, skipFinds}
 use Rattle.rules.specs.Step.{finds, ahead, next}
 use Rattle.matcher.specs.Tables.{lastShown}
-use Rattle.matcher.specs.Progress.{textOf, Reaches, Stepped}
+use Rattle.matcher.specs.Progress.{textOf, Reaches, Stepped, Writing}
 use Rattle.rules.proofs.Ranges.{among-same}
 use Rattle.rules.proofs.Occurrence.{occurs-inside, occurrences-append, occurrences-one}
 use Rattle.matcher.proofs.Progress.{reaches-quiet, reaches-join}
-use Rattle.matcher.proofs.Writing.{Writing, writing-more, writing-length, stepped-whole, stepped-full}
+use Rattle.matcher.proofs.Writing.{writing-more, writing-length, stepped-whole, stepped-full}
 use Rattle.rules.proofs.Skip.{reaches-byte, contains-byte, shown-occurs}
 use Rattle.skip.proofs.SkipChain.{byteOf, walk-start}
 

@@ -4,6 +4,7 @@
 use bits::ByteNo;
 use bits::Place;
 use bits::load;
+use matcher::Advance;
 use matcher::Found;
 use matcher::Hop;
 use matcher::compare;
@@ -18,7 +19,7 @@ ghost use Rattle.bits.specs.Packed.{bitsAt};
 ghost use Rattle.rules.specs.Occurrence.{places, occurrences};
 ghost use Rattle.rules.specs.Skip.{lastByte};
 ghost use Rattle.matcher.specs.Tables.{cellsFor, chained, lastShown, SkipTables, Prepared};
-ghost use Rattle.matcher.specs.Progress.{textOf, patternOf, HeadOf, GoodPattern, Ready, Quiet, Stepped};
+ghost use Rattle.matcher.specs.Progress.{textOf, patternOf, HeadOf, GoodPattern, Ready, Quiet, Stepped, Advanced};
 
 // Where steps over empty chains end: the mark, the steps made, and the link with which the mark's chain begins, or 0 where
 // no step is due.
@@ -275,6 +276,32 @@ pub fn step(
     Found {
         at: Place(cut(top, end)),
         hits: hits,
+        full: false,
+    }
+}
+
+// Many steps.
+pub fn advance(
+    text: &[u8],
+    n: u32,
+    word: &[u8],
+    m: u32,
+    h: Head,
+    cells: &[u64],
+    s: Place,
+    budget: u32,
+    list: &mut [u32],
+    had: usize,
+) -> Advance
+    requires { ⌜ Ready Method.Skip (textOf (now text) n) (patternOf (now word) m) (now cells) ⌝ }
+    requires { ⌜ HeadOf (patternOf (now word) m) (h .bits) (h .cut) ⌝ }
+    requires { ⌜ (s .0 ≤ places (textOf (now text) n) (patternOf (now word) m)) × (had ≤ length (now list)) ⌝ }
+    ensures { λ r. ⌜ Advanced Method.Skip (textOf (now (text .entry)) n) (patternOf (now (word .entry)) m) (s .0) budget (now (list .entry)) had (r .at .0) (r .steps) (r .hits) (r .full) (now (list .exit)) ⌝ }
+{
+    Advance {
+        at: s,
+        steps: 0,
+        hits: had,
         full: false,
     }
 }

@@ -3,6 +3,7 @@
 use bits::Place;
 use bits::bit;
 use bits::load;
+use matcher::Advance;
 use matcher::Found;
 use matcher::Hop;
 use matcher::compare;
@@ -17,7 +18,7 @@ ghost use Rattle.rules.specs.Occurrence.{places};
 ghost use Rattle.rules.specs.Step.{next};
 ghost use Rattle.matcher.specs.Tables.{cellsFor, passes, WideTables, Prepared};
 ghost use Rattle.wide.specs.Flags.{Stand, Keeps, NoneFrom, Move};
-ghost use Rattle.matcher.specs.Progress.{textOf, patternOf, HeadOf, GoodPattern, Ready, Quiet, Stepped};
+ghost use Rattle.matcher.specs.Progress.{textOf, patternOf, HeadOf, GoodPattern, Ready, Quiet, Stepped, Advanced};
 
 // Every flag stands.
 const ALL: u64 = 18446744073709551615;
@@ -339,4 +340,30 @@ pub fn step(
     let stop = cut(s.0 + 64, n - m + 1);
     let flags = scan(text, word, m, cells, s);
     settle(text, n, word, m, h, s, to, stop, flags, list, had)
+}
+
+// Many steps.
+pub fn advance(
+    text: &[u8],
+    n: u32,
+    word: &[u8],
+    m: u32,
+    h: Head,
+    cells: &[u64],
+    s: Place,
+    budget: u32,
+    list: &mut [u32],
+    had: usize,
+) -> Advance
+    requires { ⌜ Ready Method.Wide (textOf (now text) n) (patternOf (now word) m) (now cells) ⌝ }
+    requires { ⌜ HeadOf (patternOf (now word) m) (h .bits) (h .cut) ⌝ }
+    requires { ⌜ (s .0 ≤ places (textOf (now text) n) (patternOf (now word) m)) × (had ≤ length (now list)) ⌝ }
+    ensures { λ r. ⌜ Advanced Method.Wide (textOf (now (text .entry)) n) (patternOf (now (word .entry)) m) (s .0) budget (now (list .entry)) had (r .at .0) (r .steps) (r .hits) (r .full) (now (list .exit)) ⌝ }
+{
+    Advance {
+        at: s,
+        steps: 0,
+        hits: had,
+        full: false,
+    }
 }

@@ -9,9 +9,9 @@ use denote.Ref.{now}
 use borrow.Author.Tests.{ltb-false}
 use Rattle.rules.specs.Occurrence.{occurrences}
 use Rattle.matcher.specs.Tables.{chained, lastShown}
-use Rattle.matcher.specs.Progress.{textOf, patternOf}
+use Rattle.matcher.specs.Progress.{textOf, patternOf, Writing}
 use Rattle.rules.proofs.Occurrence.{places-some}
-use Rattle.matcher.proofs.Writing.{Writing, writing-none, writing-length}
+use Rattle.matcher.proofs.Writing.{writing-none, writing-length}
 use Rattle.rules.proofs.Skip.{reaches-byte, contains-byte}
 use Rattle.skip.proofs.SkipChain.{byte-is, walk-start, walk-by, walk-found, walk-end}
 use Rattle.skip.proofs.SkipStep.{span-fits, link-inside, link-outside, compared, written-more, skip-full, skip-whole}

@@ -11,10 +11,10 @@ use lib.Pow.{shr-le}
 use Rattle.rules.specs.declared.Method.the-variants.{Wide}
 use Rattle.rules.specs.Occurrence.{occurrences}
 use Rattle.rules.specs.Step.{finds}
-use Rattle.matcher.specs.Progress.{textOf, patternOf}
+use Rattle.matcher.specs.Progress.{textOf, patternOf, Writing}
 use Rattle.wide.specs.Flags.{Stand}
 use Rattle.rules.proofs.Occurrence.{occurrences-none}
-use Rattle.matcher.proofs.Writing.{Writing, writing-none, writing-more, writing-length, stepped-whole, stepped-full}
+use Rattle.matcher.proofs.Writing.{writing-none, writing-more, writing-length, stepped-whole, stepped-full}
 use Rattle.wide.proofs.WideTables.{trailing-lt}
 use Rattle.wide.proofs.WideFlags.{stand-none, none-below, none-below-end, none-join, none-one, stand-shift, wide-finds, finds-passed, passed-none, passed-hit, passed-rest}
 use Rattle.wide.proofs.settle.Statement.{statement}
