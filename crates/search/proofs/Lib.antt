@@ -4,5 +4,5 @@ pub mod Answers
 pub mod Calls
 pub mod Padding
 pub mod Examples
-pub mod Going
+pub mod Ending
 pub mod Accepting

@@ -5,12 +5,11 @@ use crate::Method;
 use crate::Stop;
 use crate::method;
 use bits::Place;
-use matcher::Hop;
 use matcher::compare;
 use matcher::compare::Head;
 ghost use Prim.Native.Nat.{_^_, _≤_};
 ghost use Rattle.rules.specs.Occurrence.{places};
-ghost use Rattle.matcher.specs.Progress.{textOf, patternOf, HeadOf, Ready, Quiet};
+ghost use Rattle.matcher.specs.Progress.{textOf, patternOf, HeadOf, Ready};
 ghost use Rattle.search.specs.Parts.{Ran, Allowed, Leaves, Tells};
 
 // What the steps of a call leave: the mark, the steps made, the places written, and whether a place found no cell.
@@ -21,32 +20,8 @@ pub struct Left {
     pub full: bool,
 }
 
-// Passes over the steps that find nothing, unless the step before found something: where occurrences are dense the next
-// step is likely to find one too, and would be looked at twice.
-fn pass_over(
-    found: bool,
-    method: Method,
-    text: &[u8],
-    n: u32,
-    word: &[u8],
-    m: u32,
-    h: Head,
-    cells: &[u64],
-    s: Place,
-    budget: u32,
-) -> Hop
-    requires { ⌜ Ready method (textOf (now text) n) (patternOf (now word) m) (now cells) ⌝ }
-    requires { ⌜ HeadOf (patternOf (now word) m) (h .bits) (h .cut) ⌝ }
-    requires { ⌜ s .0 ≤ places (textOf (now text) n) (patternOf (now word) m) ⌝ }
-    ensures { λ r. ⌜ Quiet method (textOf (now (text .entry)) n) (patternOf (now (word .entry)) m) (s .0) budget (r .at .0) (r .steps) ⌝ }
-{
-    if found {
-        return Hop { at: s, steps: 0 };
-    }
-    method::quiet(method, text, n, word, m, h, cells, s, budget)
-}
-
-// Steps from the mark until the places, the budget or the cells of the list are at an end. The tables are made.
+// Steps from the mark until the places, the budget or the cells of the list are at an end: one from the mark, wherever it
+// is, and many behind it. The tables are made.
 pub fn run(
     mark: Mark,
     method: Method,
@@ -70,7 +45,6 @@ pub fn run(
     let mut steps = 0u32;
     let mut hits = 0usize;
     while at < end && steps < budget {
-        let had = hits;
         let one = Mark { at: Place(at) }.step(method, text, n, word, m, h, cells, list, hits);
         let moved = one.mark;
         hits = one.hits;
@@ -83,9 +57,7 @@ pub fn run(
                 full: true,
             };
         }
-        let next = moved.at;
-        let hop = pass_over(
-            had < hits,
+        let more = method::advance(
             method,
             text,
             n,
@@ -93,12 +65,23 @@ pub fn run(
             m,
             h,
             cells,
-            next,
+            moved.at,
             budget - steps,
+            list,
+            hits,
         );
-        let there = hop.at;
+        let there = more.at;
         at = there.0;
-        steps += hop.steps;
+        steps += more.steps;
+        hits = more.hits;
+        if more.full {
+            return Left {
+                mark: Mark { at: there },
+                steps: steps,
+                hits: hits,
+                full: true,
+            };
+        }
     }
     Left {
         mark: Mark { at: Place(at) },

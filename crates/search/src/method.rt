@@ -1,15 +1,15 @@
-// The four methods behind one small interface, chosen by `Method`: make the tables, pass over steps that find nothing,
-// make one step.
+// The four methods behind one small interface, chosen by `Method`: make the tables, make one step from any
+// mark, make many.
 use bits::Place;
+use matcher::Advance;
 use matcher::Found;
-use matcher::Hop;
 use matcher::compare::Head;
 use rules::Method;
 ghost use Prim.Native.Nat.{_≤_, _<_};
 ghost use lib.ListN.{length};
 ghost use Rattle.rules.specs.Occurrence.{places};
 ghost use Rattle.matcher.specs.Tables.{cellsFor, Prepared};
-ghost use Rattle.matcher.specs.Progress.{textOf, patternOf, HeadOf, GoodPattern, Ready, Quiet, Stepped};
+ghost use Rattle.matcher.specs.Progress.{textOf, patternOf, HeadOf, GoodPattern, Ready, Stepped, Advanced};
 
 // Makes the method's tables.
 pub fn prepare(method: Method, word: &[u8], m: u32, cells: &mut [u64])
@@ -22,31 +22,6 @@ pub fn prepare(method: Method, word: &[u8], m: u32, cells: &mut [u64])
         Method::Hash => hash::prepare(word, m, cells),
         Method::Skip => skip::prepare(word, m, cells),
         Method::Wide => wide::prepare(word, m, cells),
-    }
-}
-
-// Makes steps as long as they find nothing.
-pub fn quiet(
-    method: Method,
-    text: &[u8],
-    n: u32,
-    word: &[u8],
-    m: u32,
-    h: Head,
-    cells: &[u64],
-    s: Place,
-    budget: u32,
-) -> Hop
-    requires { ⌜ Ready method (textOf (now text) n) (patternOf (now word) m) (now cells) ⌝ }
-    requires { ⌜ HeadOf (patternOf (now word) m) (h .bits) (h .cut) ⌝ }
-    requires { ⌜ s .0 ≤ places (textOf (now text) n) (patternOf (now word) m) ⌝ }
-    ensures { λ r. ⌜ Quiet method (textOf (now (text .entry)) n) (patternOf (now (word .entry)) m) (s .0) budget (r .at .0) (r .steps) ⌝ }
-{
-    match method {
-        Method::Plain => plain::quiet(text, n, word, m, h, cells, s, budget),
-        Method::Hash => hash::quiet(text, n, word, m, h, cells, s, budget),
-        Method::Skip => skip::quiet(text, n, word, m, h, cells, s, budget),
-        Method::Wide => wide::quiet(text, n, word, m, h, cells, s, budget),
     }
 }
 
@@ -73,5 +48,32 @@ pub fn step(
         Method::Hash => hash::step(text, n, word, m, h, cells, s, list, had),
         Method::Skip => skip::step(text, n, word, m, h, cells, s, list, had),
         Method::Wide => wide::step(text, n, word, m, h, cells, s, list, had),
+    }
+}
+
+// Makes many steps.
+pub fn advance(
+    method: Method,
+    text: &[u8],
+    n: u32,
+    word: &[u8],
+    m: u32,
+    h: Head,
+    cells: &[u64],
+    s: Place,
+    budget: u32,
+    list: &mut [u32],
+    had: usize,
+) -> Advance
+    requires { ⌜ Ready method (textOf (now text) n) (patternOf (now word) m) (now cells) ⌝ }
+    requires { ⌜ HeadOf (patternOf (now word) m) (h .bits) (h .cut) ⌝ }
+    requires { ⌜ (s .0 ≤ places (textOf (now text) n) (patternOf (now word) m)) × (had ≤ length (now list)) ⌝ }
+    ensures { λ r. ⌜ Advanced method (textOf (now (text .entry)) n) (patternOf (now (word .entry)) m) (s .0) budget (now (list .entry)) had (r .at .0) (r .steps) (r .hits) (r .full) (now (list .exit)) ⌝ }
+{
+    match method {
+        Method::Plain => plain::advance(text, n, word, m, h, cells, s, budget, list, had),
+        Method::Hash => hash::advance(text, n, word, m, h, cells, s, budget, list, had),
+        Method::Skip => skip::advance(text, n, word, m, h, cells, s, budget, list, had),
+        Method::Wide => wide::advance(text, n, word, m, h, cells, s, budget, list, had),
     }
 }

@@ -1,23 +1,46 @@
--- `search::call::run` meets its contract: each turn is one step and the steps behind it that find nothing, by the laws of `Going`.
+-- `search::call::run` meets its contract: each turn is one step and many behind it, by the laws of steps made one behind the other.
 -- Assumes nothing.
-use mathlib.Core.Path.{_≡_, sym, _∙_}
+use mathlib.Core.Path.{_≡_, refl, _∙_}
+use mathlib.Core.Bool.{true, false}
 use Prim.Native.Nat.{ℕ, _+_, _-_, _≤_, _<_}
 use native.Mathlib.Omega.{arith}
 use borrow.Author.Tests.{ltb-true, ltb-false}
 use denote.Ref.{now}
-use Rattle.matcher.specs.Progress.{textOf, patternOf}
-use Rattle.rules.proofs.Step.{next-le}
+use Rattle.matcher.specs.Progress.{textOf, patternOf, Advanced}
 use Rattle.matcher.proofs.Writing.{writing-length}
-use Rattle.search.proofs.Going.{Going, going-start, whole-step, going-on, going-ends, going-full}
+use Rattle.matcher.proofs.Advancing.{advanced-none, advanced-step, advanced-join}
+use Rattle.search.proofs.Ending.{ran-to-end, ran-to-cut}
 use Rattle.search.proofs.call.run.Statement.{statement}
 use Rattle.search.proofs.call.run.Tie as tie
 
 abbrev Inv-loop : tie.InvT-loop
 Inv-loop method text n word m h cells budget list₀ end at₀ steps₀ hits₀ list at steps hits =
-    Going method (textOf text n) (patternOf word m) at₀ budget list₀ list at steps hits
+    Advanced method (textOf text n) (patternOf word m) at₀ budget list₀ 0 at steps hits false list
 
 abbrev μ-loop : tie.MeasureT-loop
 μ-loop method text n word m h cells budget list₀ end at₀ steps₀ hits₀ list at steps hits = budget - steps
+
+-- the step that a turn begins with
+one : (c : tie.After-moved Inv-loop μ-loop)
+    → let a = c .before .before .before .before .before .before .before .before .before .before .before .before .before .args in
+    let r = c .before .before .before .step .result in
+    Advanced (a .method) (textOf (now (a .text)) (a .n)) (patternOf (now (a .word)) (a .m)) (a .mark .at .0) (a .budget) (now (a .list)) 0 (r .mark .at .0) (c .before .before .before .before .before .before .before .loop .steps + 1) (r .hits) (r .full) (c .before .before .before .step .last .1 .1 .1 .1 .1 .1 .1 .1 .0)
+one c =
+    let s = c .before .before .before .before .before .before .before .before .before .before .before .before .before in
+    let a = s .args in
+    let l = c .before .before .before .before .before .before .before .loop in
+    advanced-step (a .method) (textOf (now (a .text)) (a .n)) (patternOf (now (a .word)) (a .m)) (a .mark .at .0) (a .budget) (now (a .list)) 0 (l .at) (l .steps) (l .hits) (l .list) (omega arith) (l .inv)
+    _ _ _ _ (omega (arith, c .before .before .before .before .before .before .loop-test .taken, s .pre .0 .inside)) (ltb-true _ _ (c .before .before .before .before .before .if1 .taken)) (c .before .before .before .step .ensures)
+
+-- that step and those behind it
+more : (c : tie.After-struct-known Inv-loop μ-loop)
+    → let a = c .before .before .before .before .before .before .before .before .before .before .before .before .before .before .before .before .before .before .before .before .args in
+    let r = c .before .before .before .before .advance .result in
+    Advanced (a .method) (textOf (now (a .text)) (a .n)) (patternOf (now (a .word)) (a .m)) (a .mark .at .0) (a .budget) (now (a .list)) 0 (r .at .0) (c .before .before .before .before .before .before .before .before .before .before .before .before .before .before .loop .steps + 1 + r .steps) (r .hits) (r .full) (c .before .before .before .before .advance .last .1 .1 .1 .1 .1 .1 .1 .1 .1 .0)
+more c =
+    let a = c .before .before .before .before .before .before .before .before .before .before .before .before .before .before .before .before .before .before .before .before .args in
+    advanced-join (a .method) (textOf (now (a .text)) (a .n)) (patternOf (now (a .word)) (a .m)) (a .mark .at .0) (a .budget) (now (a .list)) 0 _ (c .before .before .before .before .before .before .before .before .before .before .before .before .before .before .loop .steps + 1) _ _ _ _ _ _ _ (omega arith)
+    (rw (c .before .before .before .before .before .before .if2 .left) at (one (c .before .before .before .before .before .before .before))) (c .before .before .before .before .advance .ensures)
 
 sub-end : tie.Need-sub-end Inv-loop μ-loop
 sub-end c =
@@ -33,23 +56,17 @@ loop-holds : tie.Need-loop-holds Inv-loop μ-loop
 loop-holds c =
     let s = c .before .before .before .before .before in
     let a = s .args in
-    let text = textOf (now (a .text)) (a .n) in
-    let word = patternOf (now (a .word)) (a .m) in
-    going-start (a .method) text word (a .mark .at .0) (a .budget) (now (a .list)) (s .pre .1 .1)
+    advanced-none (a .method) (textOf (now (a .text)) (a .n)) (patternOf (now (a .word)) (a .m)) (a .mark .at .0) (a .budget) (now (a .list)) 0 (omega arith) (s .pre .1 .1)
 
 step-requires : tie.Need-step-requires Inv-loop μ-loop
 step-requires c κs =
     let s = c .before .before .before .before .before .before .before .before .before in
-    let a = s .args in
-    let text = textOf (now (a .text)) (a .n) in
-    let word = patternOf (now (a .word)) (a .m) in
     let l = c .before .before .before .loop in
-    let same = writing-length (now (a .list)) 0 (l .inv .found) (l .list) (l .hits) (l .inv .writing) in
+    let same = writing-length _ 0 (l .inv .found) (l .list) (l .hits) (l .inv .writing) in
     (s .pre .0, (s .pre .1 .0, (omega (arith, c .before .before .loop-test .taken, s .pre .0 .inside), omega (arith, same, l .inv .writing .fits))))
 
 add-steps : tie.Need-add-steps Inv-loop μ-loop
-add-steps c =
-    omega (arith, ltb-true (c .before .before .before .before .before .before .before .loop .steps) (c .before .before .before .before .before .before .before .before .before .before .before .before .before .args .budget) (c .before .before .before .before .before .if1 .taken), c .before .before .before .before .before .before .before .before .before .before .before .before .before .fits .budget)
+add-steps c = omega (arith, ltb-true (c .before .before .before .before .before .before .before .loop .steps) (c .before .before .before .before .before .before .before .before .before .before .before .before .before .args .budget) (c .before .before .before .before .before .if1 .taken), c .before .before .before .before .before .before .before .before .before .before .before .before .before .fits .budget)
 
 same-length : tie.Need-same-length Inv-loop μ-loop
 same-length c =
@@ -58,77 +75,59 @@ same-length c =
 
 returns : tie.Need-returns Inv-loop μ-loop
 returns c =
-    let s = c .before .before .before .before .before .before .before .before .before .before .before .before .before .before in
-    let a = s .args in
-    let text = textOf (now (a .text)) (a .n) in
-    let word = patternOf (now (a .word)) (a .m) in
-    let l = c .before .before .before .before .before .before .before .before .loop in
-    going-full (a .method) text word (a .mark .at .0) (a .budget) (now (a .list)) (l .list) (c .before .before .before .before .step .last .1 .1 .1 .1 .1 .1 .1 .1 .0) (l .at) (l .steps) (l .hits) _ _ (l .inv)
-    (omega (arith, c .before .before .before .before .before .before .before .loop-test .taken, s .pre .0 .inside)) (ltb-true _ _ (c .before .before .before .before .before .before .if1 .taken))
-    (rw (c .if2 .taken) at (c .before .before .before .before .step .ensures))
+    let a = c .before .before .before .before .before .before .before .before .before .before .before .before .before .before .args in
+    ran-to-cut (a .method) (textOf (now (a .text)) (a .n)) (patternOf (now (a .word)) (a .m)) (a .mark .at .0) (a .budget) (now (a .list)) _ _ _ _ (rw (c .if2 .taken) at (one (c .before)))
 
-sub-pass-over : tie.Need-sub-pass-over Inv-loop μ-loop
-sub-pass-over c = omega (arith, ltb-true (c .before .before .before .before .before .before .before .before .before .loop .steps) (c .before .before .before .before .before .before .before .before .before .before .before .before .before .before .before .args .budget) (c .before .before .before .before .before .before .before .if1 .taken))
+sub-advance : tie.Need-sub-advance Inv-loop μ-loop
+sub-advance c = omega (arith, one (c .before) .within)
 
-pass-over-requires : tie.Need-pass-over-requires Inv-loop μ-loop
-pass-over-requires c κs =
+advance-requires : tie.Need-advance-requires Inv-loop μ-loop
+advance-requires c κs =
     let s = c .before .before .before .before .before .before .before .before .before .before .before .before .before .before .before in
-    let a = s .args in
-    let text = textOf (now (a .text)) (a .n) in
-    let word = patternOf (now (a .word)) (a .m) in
-    let l = c .before .before .before .before .before .before .before .before .before .loop in
-    let same = writing-length (now (a .list)) 0 (l .inv .found) (l .list) (l .hits) (l .inv .writing) in
-    let one = whole-step (a .method) text word (a .mark .at .0) (a .budget) (now (a .list)) (l .at) (l .hits) _ _ (l .list) _
-    (omega (arith, same, l .inv .writing .fits)) (rw (c .before .if2 .left) at (c .before .before .before .before .before .step .ensures)) in
-    (s .pre .0, (s .pre .1 .0, rw (one .0) (next-le (a .method) text word (l .at))))
+    let made = rw (c .before .if2 .left) at (one (c .before .before)) in
+    let same = writing-length _ 0 (made .found) _ _ (made .writing) in
+    (s .pre .0, (s .pre .1 .0, (made .inside refl, omega (arith, same, made .writing .fits))))
 
 add-steps-2 : tie.Need-add-steps-2 Inv-loop μ-loop
-add-steps-2 c =
-    omega (arith, ltb-true (c .before .before .before .before .before .before .before .before .before .before .before .before .loop .steps) (c .before .before .before .before .before .before .before .before .before .before .before .before .before .before .before .before .before .before .args .budget) (c .before .before .before .before .before .before .before .before .before .before .if1 .taken), c .before .before .before .before .before .before .before .before .before .before .before .before .before .before .before .before .before .before .fits .budget, c .before .before .pass-over .ensures .within)
-
-loop-less : tie.Need-loop-less Inv-loop μ-loop
-loop-less c =
-    omega (arith, ltb-true (c .before .before .before .before .before .before .before .before .before .before .before .before .loop .steps) (c .before .before .before .before .before .before .before .before .before .before .before .before .before .before .before .before .before .before .args .budget) (c .before .before .before .before .before .before .before .before .before .before .if1 .taken), c .before .before .pass-over .ensures .within)
-
-loop-again : tie.Need-loop-again Inv-loop μ-loop
-loop-again c =
-    let s = c .before .before .before .before .before .before .before .before .before .before .before .before .before .before .before .before .before .before in
-    let a = s .args in
-    let text = textOf (now (a .text)) (a .n) in
-    let word = patternOf (now (a .word)) (a .m) in
-    let l = c .before .before .before .before .before .before .before .before .before .before .before .before .loop in
-    going-on (a .method) text word (a .mark .at .0) (a .budget) (now (a .list)) (l .list) (c .before .before .before .before .before .before .before .before .step .last .1 .1 .1 .1 .1 .1 .1 .1 .0) (l .at) (l .steps) (l .hits) _ _ _ _ (l .inv)
-    (omega (arith, c .before .before .before .before .before .before .before .before .before .before .before .loop-test .taken, s .pre .0 .inside)) (ltb-true _ _ (c .before .before .before .before .before .before .before .before .before .before .if1 .taken))
-    (rw (c .before .before .before .before .if2 .left) at (c .before .before .before .before .before .before .before .before .step .ensures)) (c .before .before .pass-over .ensures)
+add-steps-2 c = omega (arith, more c .within, c .before .before .before .before .before .before .before .before .before .before .before .before .before .before .before .before .before .before .before .before .fits .budget)
 
 same-length-2 : tie.Need-same-length-2 Inv-loop μ-loop
-same-length-2 c =
-    let l = c .before .before .loop in
-    writing-length _ 0 (l .inv .found) (l .list) (l .hits) (l .inv .writing)
+same-length-2 c = writing-length _ 0 (more (c .before) .found) _ _ (more (c .before) .writing)
 
 returns-2 : tie.Need-returns-2 Inv-loop μ-loop
 returns-2 c =
-    let s = c .before .before .before .before .before .before .before .before in
-    let a = s .args in
-    let text = textOf (now (a .text)) (a .n) in
-    let word = patternOf (now (a .word)) (a .m) in
-    let l = c .before .before .loop in
-    going-ends (a .method) text word (a .mark .at .0) (a .budget) (now (a .list)) (l .list) (l .at) (l .steps) (l .hits) (l .inv)
-    (λ _. omega (arith, ltb-false (l .steps) (a .budget) (c .if1 .left), l .inv .within))
+    let a = c .before .before .before .before .before .before .before .before .before .before .before .before .before .before .before .before .before .before .before .before .before .args in
+    ran-to-cut (a .method) (textOf (now (a .text)) (a .n)) (patternOf (now (a .word)) (a .m)) (a .mark .at .0) (a .budget) (now (a .list)) _ _ _ _ (rw (c .if3 .taken) at (more (c .before)))
+
+loop-less : tie.Need-loop-less Inv-loop μ-loop
+loop-less c = omega (arith, more (c .before) .within)
+
+loop-again : tie.Need-loop-again Inv-loop μ-loop
+loop-again c = rw (c .if3 .left) at (more (c .before))
 
 same-length-3 : tie.Need-same-length-3 Inv-loop μ-loop
 same-length-3 c =
-    let l = c .before .loop in
+    let l = c .before .before .loop in
     writing-length _ 0 (l .inv .found) (l .list) (l .hits) (l .inv .writing)
 
 returns-3 : tie.Need-returns-3 Inv-loop μ-loop
 returns-3 c =
+    let a = c .before .before .before .before .before .before .before .before .args in
+    let l = c .before .before .loop in
+    ran-to-end (a .method) (textOf (now (a .text)) (a .n)) (patternOf (now (a .word)) (a .m)) (a .mark .at .0) (a .budget) (now (a .list)) (l .list) (l .at) (l .steps) (l .hits) (l .inv)
+    (λ _. omega (arith, ltb-false (l .steps) (a .budget) (c .if1 .left), l .inv .within))
+
+same-length-4 : tie.Need-same-length-4 Inv-loop μ-loop
+same-length-4 c =
+    let l = c .before .loop in
+    writing-length _ 0 (l .inv .found) (l .list) (l .hits) (l .inv .writing)
+
+returns-4 : tie.Need-returns-4 Inv-loop μ-loop
+returns-4 c =
     let s = c .before .before .before .before .before .before .before in
     let a = s .args in
-    let text = textOf (now (a .text)) (a .n) in
-    let word = patternOf (now (a .word)) (a .m) in
     let l = c .before .loop in
-    going-ends (a .method) text word (a .mark .at .0) (a .budget) (now (a .list)) (l .list) (l .at) (l .steps) (l .hits) (l .inv)
+    ran-to-end (a .method) (textOf (now (a .text)) (a .n)) (patternOf (now (a .word)) (a .m)) (a .mark .at .0) (a .budget) (now (a .list)) (l .list) (l .at) (l .steps) (l .hits) (l .inv)
     (λ h. absurd (omega (arith, c .loop-test .left, s .pre .0 .inside, h)))
 
 pub run-spec : {M : Type 1} → statement M
@@ -144,12 +143,14 @@ run-spec =
     add-steps
     same-length
     returns
-    sub-pass-over
-    pass-over-requires
+    sub-advance
+    advance-requires
     add-steps-2
-    loop-less
-    loop-again
     same-length-2
     returns-2
+    loop-less
+    loop-again
     same-length-3
-    returns-3)
+    returns-3
+    same-length-4
+    returns-4)

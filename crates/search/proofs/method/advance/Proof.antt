@@ -1,0 +1,86 @@
+-- `search::method::advance` meets its contract: each arm is the method whose variant it is told.
+-- Assumes nothing.
+use borrow.Author.Needs.{needs}
+use Rattle.search.proofs.method.advance.Statement.{statement}
+use Rattle.search.proofs.method.advance.Tie as tie
+
+enum-told : tie.Need-enum-told
+enum-told c = search needs
+
+advance-requires : tie.Need-advance-requires
+advance-requires c κs =
+    let s = c .before .before .before .before .before .before .before in
+    let e = c .before .enum-told .given .1 in
+    (rw e at (s .pre .0), s .pre .1)
+
+enum-told-2 : tie.Need-enum-told-2
+enum-told-2 c = search needs
+
+advance-requires-2 : tie.Need-advance-requires-2
+advance-requires-2 c κs =
+    let s = c .before .before .before .before .before .before .before in
+    let e = c .before .enum-told2 .given .1 in
+    (rw e at (s .pre .0), s .pre .1)
+
+enum-told-3 : tie.Need-enum-told-3
+enum-told-3 c = search needs
+
+advance-requires-3 : tie.Need-advance-requires-3
+advance-requires-3 c κs =
+    let s = c .before .before .before .before .before .before .before in
+    let e = c .before .enum-told3 .given .1 in
+    (rw e at (s .pre .0), s .pre .1)
+
+enum-told-4 : tie.Need-enum-told-4
+enum-told-4 c = search needs
+
+advance-requires-4 : tie.Need-advance-requires-4
+advance-requires-4 c κs =
+    let s = c .before .before .before .before .before .before .before in
+    let e = c .before .enum-told4 .given .1 in
+    (rw e at (s .pre .0), s .pre .1)
+
+same-length : tie.Need-same-length
+same-length c = search needs
+
+returns : tie.Need-returns
+returns c = rw (c .before .before .before .before .enum-told .given .1) (c .before .before .advance .ensures)
+
+same-length-2 : tie.Need-same-length-2
+same-length-2 c = search needs
+
+returns-2 : tie.Need-returns-2
+returns-2 c = rw (c .before .before .before .before .enum-told2 .given .1) (c .before .before .advance2 .ensures)
+
+same-length-3 : tie.Need-same-length-3
+same-length-3 c = search needs
+
+returns-3 : tie.Need-returns-3
+returns-3 c = rw (c .before .before .before .before .enum-told3 .given .1) (c .before .before .advance3 .ensures)
+
+same-length-4 : tie.Need-same-length-4
+same-length-4 c = search needs
+
+returns-4 : tie.Need-returns-4
+returns-4 c = rw (c .before .before .before .before .enum-told4 .given .1) (c .before .before .advance4 .ensures)
+
+pub advance-spec : {M : Type 1} → statement M
+advance-spec =
+    tie.close
+    (tie.spec
+    enum-told
+    advance-requires
+    enum-told-2
+    advance-requires-2
+    enum-told-3
+    advance-requires-3
+    enum-told-4
+    advance-requires-4
+    same-length
+    returns
+    same-length-2
+    returns-2
+    same-length-3
+    returns-3
+    same-length-4
+    returns-4)
