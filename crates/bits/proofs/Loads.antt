@@ -9,7 +9,7 @@ use native.Mathlib.Decide.{decLe}
 use lib.ListN.{length, getD, List·getD-eq-default}
 use lib.Dec.{lit<, lit≤}
 use lib.Bits.{bitOr, or-shifted, or-zero-r}
-use lib.Pow.{pow-add, low, shl-lt, shl-exact, mod-mod-pow}
+use lib.Pow.{pow-add, low, high, shl-lt, shl-exact, mod-mod-pow}
 use Rattle.bits.specs.Packed.{weight, bitAt, bitsAt}
 use Rattle.bits.proofs.Weight.{same-weights}
 use Rattle.bits.proofs.Run.{bits-lt, bits-add, bits-first, bits-last, weight-of-bits, agree→load}
@@ -70,14 +70,9 @@ bytes-more bytes b k h =
     there : b * 8 + k * 8 ≡ (b + k) * 8
     there = omega arith
 
--- The k bits from p + r on are the last k − r of those from p on, and then the first r of the s bits that follow these:
--- a shift to the left by r within k bits, and a shift to the right by s − r of what follows.
-pub unaligned : (bytes : List ℕ) (p k s r : ℕ) → r ≤ k → r ≤ s
-    → bitOr ((bitsAt bytes p k * 2 ^ r) % 2 ^ k) (bitsAt bytes (p + k) s / 2 ^ (s - r)) ≡ bitsAt bytes (p + r) k
-unaligned bytes p k s r hk hs =
-    ap₂ bitOr left (bits-first bytes (p + k) hs)
-    ∙ or-shifted rest r (bitsAt bytes (p + k) r) (bits-lt bytes (p + k) r)
-    ∙ sym joined
+-- A shift to the left by r within k bits leaves the last k − r of them.
+shifted-out : (bytes : List ℕ) (p k r : ℕ) → r ≤ k → (bitsAt bytes p k * 2 ^ r) % 2 ^ k ≡ bitsAt bytes (p + r) (k - r) * 2 ^ r
+shifted-out bytes p k r h = ap (λ (x : ℕ). x % 2 ^ k) moved ∙ low (bitsAt bytes p r) k fits
   where
     whole : (k - r) + r ≡ k
     whole = omega arith
@@ -100,8 +95,20 @@ unaligned bytes p k s r hk hs =
     moved : bitsAt bytes p k * 2 ^ r ≡ bitsAt bytes p r * 2 ^ k + rest * 2 ^ r
     moved = rw (parts, ← power) (omega arith)
 
-    left : (bitsAt bytes p k * 2 ^ r) % 2 ^ k ≡ rest * 2 ^ r
-    left = ap (λ (x : ℕ). x % 2 ^ k) moved ∙ low (bitsAt bytes p r) k fits
+-- The k bits from p + r on are the last k − r of those from p on, and then the first r of the s bits that follow these:
+-- a shift to the left by r within k bits, and a shift to the right by s − r of what follows.
+pub unaligned : (bytes : List ℕ) (p k s r : ℕ) → r ≤ k → r ≤ s
+    → bitOr ((bitsAt bytes p k * 2 ^ r) % 2 ^ k) (bitsAt bytes (p + k) s / 2 ^ (s - r)) ≡ bitsAt bytes (p + r) k
+unaligned bytes p k s r hk hs =
+    ap₂ bitOr (shifted-out bytes p k r hk) (bits-first bytes (p + k) hs)
+    ∙ or-shifted rest r (bitsAt bytes (p + k) r) (bits-lt bytes (p + k) r)
+    ∙ sym joined
+  where
+    whole : (k - r) + r ≡ k
+    whole = omega arith
+
+    rest : ℕ
+    rest = bitsAt bytes (p + r) (k - r)
 
     follows : (p + r) + (k - r) ≡ p + k
     follows = omega arith
@@ -111,6 +118,36 @@ unaligned bytes p k s r hk hs =
         ap (λ (n : ℕ). bitsAt bytes (p + r) n) (sym whole)
         ∙ bits-add bytes (p + r) (k - r) r
         ∙ ap (λ (n : ℕ). rest * 2 ^ r + bitsAt bytes n r) follows
+
+-- Eight bytes from the byte of bit p on, shifted: the first 57 bits are those from p on, however it lies in its byte.
+pub head-at : (bytes : List ℕ) (p : ℕ) → (bitsAt bytes (p / 8 * 8) 64 * 2 ^ (p % 8)) % 2 ^ 64 / 2 ^ 7 ≡ bitsAt bytes p 57
+head-at bytes p =
+    ap (λ (x : ℕ). x / 2 ^ 7) (shifted-out bytes (p / 8 * 8) 64 (p % 8) (omega arith) ∙ ap (λ (n : ℕ). bitsAt bytes n (64 - p % 8) * 2 ^ (p % 8)) (div-add-mod' p 8) ∙ moved)
+    ∙ high (bitsAt bytes p 57) 7 fits
+  where
+    r : ℕ
+    r = p % 8
+
+    behind : ℕ
+    behind = bitsAt bytes (p + 57) (7 - r)
+
+    whole : 7 - r + r ≡ 7
+    whole = omega arith
+
+    apart : 64 - r ≡ 57 + (7 - r)
+    apart = omega arith
+
+    power : 2 ^ (7 - r) * 2 ^ r ≡ 2 ^ 7
+    power = sym (pow-add 2 (7 - r) r) ∙ ap (λ (n : ℕ). 2 ^ n) whole
+
+    fits : behind * 2 ^ r < 2 ^ 7
+    fits = rw whole at (shl-lt (7 - r) r (bits-lt bytes (p + 57) (7 - r)))
+
+    parts : bitsAt bytes p (64 - r) ≡ bitsAt bytes p 57 * 2 ^ (7 - r) + behind
+    parts = ap (λ (n : ℕ). bitsAt bytes p n) apart ∙ bits-add bytes p 57 (7 - r)
+
+    moved : bitsAt bytes p (64 - r) * 2 ^ r ≡ bitsAt bytes p 57 * 2 ^ 7 + behind * 2 ^ r
+    moved = rw (parts, ← power) (omega arith)
 
 -- The same where whole bytes are at hand: c bytes from the byte of bit p on, shifted, and the byte that follows them.
 pub load-at : (bytes : List ℕ) (p c : ℕ) → 0 < c → getD bytes (p / 8 + c) 0 < 256

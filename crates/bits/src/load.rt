@@ -2,7 +2,7 @@
 use crate::ByteNo;
 use crate::Place;
 ghost use mathlib.Core.Path.{_≡_};
-ghost use Prim.Native.Nat.{_+_, _-_, _*_, _^_, _≤_, _<_};
+ghost use Prim.Native.Nat.{_+_, _-_, _*_, _/_, _^_, _≤_, _<_};
 ghost use mathlib.Core.List.{[], _∷_};
 ghost use lib.ListN.{length, getD};
 ghost use Rattle.bits.specs.Packed.{bitsAt};
@@ -99,6 +99,15 @@ pub fn word_at(bytes: &[u8], p: Place) -> u64
     } else {
         last_bytes(bytes, b) << r
     }
+}
+
+// 64 bits of which the first 57 are those from p on, where eight bytes from p's byte on are there: one machine load, and no
+// branch. A comparison of that many bits rules most places out.
+pub fn head_inside(bytes: &[u8], p: Place) -> u64
+    requires { ⌜ p .0 / 8 + 8 ≤ length (now bytes) ⌝ }
+    ensures { λ r. ⌜ r / 2 ^ 7 ≡ bitsAt (now (bytes .entry)) (p .0) 57 ⌝ }
+{
+    eight_bytes(bytes, p.byte().0) << p.offset()
 }
 
 // The 64 bits from byte b on: one machine load but near the end.

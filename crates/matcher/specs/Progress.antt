@@ -22,9 +22,10 @@ textOf bytes n = record { bytes = bytes; count = n }
 abbrev pub patternOf : List ℕ → ℕ → Pattern
 patternOf bytes m = record { bytes = bytes; count = m }
 
--- the first 64 bits of the pattern, or all of a shorter one, as a number, and by how many bits that is short of 64
+-- the first 57 bits of the pattern, or all of a shorter one, as a number, and by how many bits that is short of 64: what one
+-- load of eight bytes shows, wherever in its byte a place lies
 abbrev pub HeadOf : Pattern → ℕ → ℕ → Type 0
-HeadOf w bits cut = (bits ≡ bitsAt (w .bytes) 0 (min (w .count) 64)) × (cut ≡ 64 - min (w .count) 64)
+HeadOf w bits cut = (bits ≡ bitsAt (w .bytes) 0 (min (w .count) 57)) × (cut ≡ 64 - min (w .count) 57)
 
 -- What a pattern is when it has passed the refusals, and the scratch.
 pub record GoodPattern (x : Method) (w : Pattern) : Type 0 where

@@ -3,11 +3,10 @@ use bits::Place;
 use bits::load;
 ghost use mathlib.Core.Path.{_≡_};
 ghost use Prim.Native.Nat.{_^_, _≤_, _<_};
-ghost use Rattle.bits.specs.Packed.{bitsAt};
 ghost use Rattle.rules.specs.Occurrence.{matches};
 ghost use Rattle.matcher.specs.Progress.{textOf, patternOf, HeadOf};
 
-// The first 64 bits of the pattern, or all of a shorter one, as a number, and by how many bits that is short of 64.
+// The first 57 bits of the pattern, or all of a shorter one, as a number, and by how many bits that is short of 64.
 pub struct Head {
     pub bits: u64,
     pub cut: u32,
@@ -17,27 +16,29 @@ pub fn head_of(word: &[u8], m: u32) -> Head
     requires { ⌜ 0 < m ⌝ }
     ensures { λ r. ⌜ HeadOf (patternOf (now (word .entry)) m) (r .bits) (r .cut) ⌝ }
 {
-    if m < 64 {
+    if m < 57 {
         Head {
             bits: load::word_at(word, Place(0)) >> (64 - m),
             cut: 64 - m,
         }
     } else {
         Head {
-            bits: load::word_at(word, Place(0)),
-            cut: 0,
+            bits: load::word_at(word, Place(0)) >> 7,
+            cut: 7,
         }
     }
 }
 
-// The bits behind the first 64; the last load overlaps the one before it.
-fn same_rest(text: &[u8], word: &[u8], m: u32, s: Place) -> bool
-    requires { ⌜ (64 < m) × (m ≤ 2048) × (s .0 ≤ 2 ^ 30) ⌝ }
-    requires { ⌜ bitsAt (now text) (s .0) 64 ≡ bitsAt (now word) 0 64 ⌝ }
+// Whether the pattern stands at s, by all of its bits; the last load overlaps the one before it.
+pub fn stands(text: &[u8], word: &[u8], m: u32, s: Place) -> bool
+    requires { ⌜ (0 < m) × (m ≤ 2048) × (s .0 ≤ 2 ^ 30) ⌝ }
     ensures { λ r. ⌜ r ≡ matches (textOf (now (text .entry)) 0) (patternOf (now (word .entry)) m) (s .0) ⌝ }
 {
+    if m <= 64 {
+        return load::word_at(text, s) >> (64 - m) == load::word_at(word, Place(0)) >> (64 - m);
+    }
     let at = s.0;
-    let mut o = 64u32;
+    let mut o = 0u32;
     while o + 64 < m {
         if load::word_at(text, Place(at + o)) != load::word_at(word, Place(o)) {
             return false;
@@ -47,17 +48,20 @@ fn same_rest(text: &[u8], word: &[u8], m: u32, s: Place) -> bool
     load::word_at(text, Place(at + (m - 64))) == load::word_at(word, Place(m - 64))
 }
 
-// Whether the pattern stands at s.
+// The same for a hot loop: one load rules most places out, and `stands`, which is called and not inlined since other
+// code uses it too, settles the others.
 pub fn same(text: &[u8], word: &[u8], m: u32, h: Head, s: Place) -> bool
     requires { ⌜ (0 < m) × (m ≤ 2048) × (s .0 ≤ 2 ^ 30) ⌝ }
     requires { ⌜ HeadOf (patternOf (now word) m) (h .bits) (h .cut) ⌝ }
     ensures { λ r. ⌜ r ≡ matches (textOf (now (text .entry)) 0) (patternOf (now (word .entry)) m) (s .0) ⌝ }
 {
-    if load::word_at(text, s) >> h.cut != h.bits {
-        return false;
+    if s.byte().0 + 8 <= text.len() {
+        if load::head_inside(text, s) >> h.cut != h.bits {
+            return false;
+        }
+        if m <= 57 {
+            return true;
+        }
     }
-    if m <= 64 {
-        return true;
-    }
-    same_rest(text, word, m, s)
+    stands(text, word, m, s)
 }

@@ -31,7 +31,7 @@ word-at-requires-2 c κs = search needs
 returns : tie.Need-returns
 returns c =
     let a = c .before .before .before .args in
-    let short : min (a .m) 64 ≡ a .m = omega arith in (
+    let short : min (a .m) 57 ≡ a .m = omega arith in (
       ap (λ (x : ℕ). x / 2 ^ (64 - a .m)) (c .word-at .ensures)
           ∙ bits-first (now (a .word)) 0 {j = a .m} {k = 64} (omega arith)
           ∙ ap (bitsAt (now (a .word)) 0) (sym short),
@@ -41,8 +41,12 @@ returns c =
 returns-2 : tie.Need-returns-2
 returns-2 c =
     let a = c .before .before .before .args in
-    let long : min (a .m) 64 ≡ 64 = omega arith in
-    (c .word-at2 .ensures ∙ ap (bitsAt (now (a .word)) 0) (sym long), omega arith)
+    let long : min (a .m) 57 ≡ 57 = omega arith in (
+      ap (λ (x : ℕ). x / 2 ^ 7) (c .word-at2 .ensures)
+          ∙ bits-first (now (a .word)) 0 {j = 57} {k = 64} (omega arith)
+          ∙ ap (bitsAt (now (a .word)) 0) (sym long),
+      omega arith,
+    )
 
 pub head-of-spec : {M : Type 1} → statement M
 head-of-spec =
