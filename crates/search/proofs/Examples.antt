@@ -1,5 +1,12 @@
--- The small examples of the refusals and of the program hold: each computes.
-use mathlib.Core.Path.{refl}
+-- The small examples of the refusals and of the program hold: each computes, but for the one about any 2^30 bits.
+-- Assumes nothing.
+use mathlib.Core.Path.{_≡_, refl}
+use mathlib.Core.List.{List}
+use Prim.Native.Nat.{ℕ, _^_, _≤_}
+use borrow.Author.Tests.{le-ltb}
+use lib.ListN.{length}
+use Rattle.rules.specs.declared.Method.the-variants.{Plain}
+use Rattle.rules.specs.Papers.{V1}
 use Rattle.bits.specs.Packed.{bitAt, bitsAt}
 use Rattle.rules.specs.Ranges.{every, among, least, greatest}
 use Rattle.rules.specs.Pattern.{agrees}
@@ -10,8 +17,15 @@ use Rattle.rules.specs.Skip.{shows, shownAt, skipFinds}
 use Rattle.rules.specs.Wide.{counts, stands, flagged, wideFinds, lastIndex, wideNext}
 use Rattle.rules.specs.Step.{finds, ahead, next}
 use Rattle.rules.specs.Machine.{stopped, cut, after, run}
-use Rattle.search.specs.Verdict.{rows, judge, verdict, hashVerdict}
-use Rattle.search.specs.Examples.{Examples}
+use Rattle.search.specs.Verdict.{rows, judge, accepted, machine, verdict, hashVerdict}
+use Rattle.search.specs.Examples.{Examples, ask, long}
+use Rattle.search.proofs.Verdict.{accepted-iff}
+
+-- none of the rows applies to 2^30 bits, where their bytes are there
+long-text : (bytes : List ℕ) → 2 ^ 27 ≤ length bytes → verdict (ask Plain (long bytes) V1 0 4224) ≡ accepted (machine (ask Plain (long bytes) V1 0 4224))
+unfolding rows
+long-text bytes h =
+    accepted-iff (ask Plain (long bytes) V1 0 4224) .1 (refl, (le-ltb (length bytes) (2 ^ 27) h, (refl, (refl, (refl, (refl, (refl, tt)))))))
 
 pub examples : Examples
 unfolding bitAt bitsAt every among least greatest agrees matches occurs occurrences fromBits inRow rowBit maskBit rowByte rowMask rowFits plainFinds meets hashOf hashAgain lastEight hashFinds hashNext shows shownAt skipFinds counts stands flagged wideFinds lastIndex wideNext finds ahead next stopped cut after run rows judge verdict hashVerdict
@@ -29,7 +43,7 @@ examples =
       all-hold = refl;
       from-5 = refl;
       from-6 = refl;
-      long-text = refl;
+      long-text = long-text;
       long-pattern = refl;
       hash-8 = refl;
       skip-15 = refl;

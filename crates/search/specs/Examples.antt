@@ -1,17 +1,17 @@
 -- The small examples of the table of refusals ("When the panel says no"), what it names as accepted, the program's
 -- example, and a flag past the last place.
-use Prim.Native.Nat.{ℕ, _-_, _^_}
+use Prim.Native.Nat.{ℕ, _-_, _^_, _≤_}
 use mathlib.Core.Path.{_≡_}
 use mathlib.Core.Bool.{true, false}
-use mathlib.Core.List.{[], _∷_}
-use lib.ListN.{replicate}
+use mathlib.Core.List.{List, [], _∷_}
+use lib.ListN.{length, replicate}
 use Rattle.bits.specs.Packed.{Packed}
 use Rattle.rules.specs.declared.Method.{Method}
 use Rattle.rules.specs.declared.Method.the-variants.{Plain, Hash, Skip, Wide}
 use Rattle.rules.specs.Pattern.{Pattern}
 use Rattle.rules.specs.Wide.{stands}
 use Rattle.rules.specs.Machine.{done}
-use Rattle.search.specs.Verdict.{Request, refused, accepted, textTooLong, patternLength, machine, verdict, hashVerdict}
+use Rattle.search.specs.Verdict.{Request, refused, accepted, machine, verdict, hashVerdict}
 use Rattle.rules.specs.Papers.{R1, V1, V2, ones5, ones3, wholeRun}
 
 -- a request with a mark and so many cells of scratch
@@ -34,6 +34,10 @@ text n bytes = record { bytes = replicate bytes 0; count = n }
 abbrev pub pattern : ℕ → ℕ → Pattern
 pattern m bytes = record { bytes = replicate bytes 0; count = m }
 
+-- 2^30 bits of any bytes
+abbrev pub long : List ℕ → Packed
+long bytes = record { bytes = bytes; count = 2 ^ 30 }
+
 pub record Examples : Type 0 where
   pub no-1 : verdict (ask Plain (text 1073741825 1) V1 0 4224) ≡ refused 1
   pub no-2 : verdict (ask Plain (text 9 1) V1 0 4224) ≡ refused 2
@@ -49,8 +53,8 @@ pub record Examples : Type 0 where
   pub from-5 : verdict (ask Hash R1 (pattern 7 1) 31 0) ≡ refused 5
   pub from-6 : verdict (ask Wide R1 V1 28 0) ≡ refused 6
   -- "Accepted: n = 2^30, m = 2,048, hash with m = 8, skip with m = 15, mark = E."
-  pub long-text : textTooLong (text (2 ^ 30) 1) .holds ≡ false
-  pub long-pattern : patternLength (pattern 2048 256) .holds ≡ false
+  pub long-text : (bytes : List ℕ) → 2 ^ 27 ≤ length bytes → verdict (ask Plain (long bytes) V1 0 4224) ≡ accepted (machine (ask Plain (long bytes) V1 0 4224))
+  pub long-pattern : verdict (ask Plain R1 (pattern 2048 256) 0 4224) ≡ accepted (machine (ask Plain R1 (pattern 2048 256) 0 4224))
   pub hash-8 : verdict (ask Hash R1 (pattern 8 1) 0 4224) ≡ accepted (machine (ask Hash R1 (pattern 8 1) 0 4224))
   pub skip-15 : verdict (ask Skip R1 (pattern 15 2) 0 4224) ≡ accepted (machine (ask Skip R1 (pattern 15 2) 0 4224))
   pub at-end : verdict (ask Plain R1 V1 27 4224) ≡ accepted (machine (ask Plain R1 V1 27 4224))
