@@ -19,10 +19,9 @@ use Rattle.rules.specs.Pattern.{Pattern}
 use Rattle.rules.specs.Occurrence.{places, matches}
 use Rattle.rules.specs.Hash.{meets, hashOf, hashAgain, lastEight, hashFinds, hashNext}
 use Rattle.rules.specs.Step.{finds, ahead, next}
-use Rattle.matcher.specs.Progress.{textOf, Ready, GoodPattern, Reaches, Quiet, Stepped, Writing}
+use Rattle.matcher.specs.Progress.{textOf, Ready, GoodPattern, Stepped, Writing}
 use Rattle.rules.proofs.Occurrence.{occurs-inside}
 use Rattle.rules.proofs.Hash.{LeastMeeting, again-least, hash-compares}
-use Rattle.matcher.proofs.Progress.{reaches-quiet}
 use Rattle.matcher.proofs.Writing.{writing-none, writing-more, stepped-whole, stepped-full}
 
 -- a comparison does not look at the text's bit count
@@ -112,20 +111,6 @@ module _ (t : Packed) (w : Pattern) (cells : List ℕ) (ready : Ready Hash t w c
   pub step-finds : (s : ℕ) → s < places t w → finds Hash t w s ≡ keep (matches t w s) s []
   unfolding finds hashFinds
   step-finds s inside = ap (λ (b : Bool). keep b s []) (hash-compares t w s long inside ∙ occurs-inside t w s inside)
-
-  -- a step more that finds nothing
-  pub quiet-more : (from at steps v : ℕ) → Reaches Hash t w from steps [] (min at (places t w)) → at < places t w
-      → v ≡ bitsAt (t .bytes) (at + (w .count - 8)) 8 → matches t w at ≡ false
-      → Reaches Hash t w from (steps + 1) [] (min (at + getD cells v 0) (places t w))
-  quiet-more from at steps v f inside e miss =
-      let here : min at (places t w) ≡ at = omega arith in
-      let nothing : finds Hash t w at ≡ [] = step-finds at inside ∙ ap (λ (b : Bool). keep b at []) miss in
-      rw (cell-at at v e .moves) at (reaches-quiet Hash t w from at steps (rw here at f) inside nothing)
-
-  -- where it stops
-  pub quiet-ends : (from at steps budget stop : ℕ) → Reaches Hash t w from steps [] (min at (places t w)) → steps ≤ budget
-      → stop ≡ min at (places t w) → Quiet Hash t w from budget stop steps
-  quiet-ends from at steps budget stop f few e = record { reaches = rw e f; within = few; inside = omega arith }
 
   module _ (s : ℕ) (inside : s < places t w) (before : List ℕ) (had : ℕ) where
     -- the pattern stands at s, and no cell is free

@@ -3,7 +3,6 @@ use bits::Place;
 use bits::load;
 use matcher::Advance;
 use matcher::Found;
-use matcher::Hop;
 use matcher::compare;
 use matcher::compare::Head;
 use rules::Method;
@@ -15,7 +14,7 @@ ghost use Rattle.rules.specs.Occurrence.{places};
 ghost use Rattle.rules.specs.Step.{next};
 ghost use Rattle.hash.specs.HashMoves.{Entered};
 ghost use Rattle.matcher.specs.Tables.{cellsFor, Prepared};
-ghost use Rattle.matcher.specs.Progress.{textOf, patternOf, HeadOf, GoodPattern, Ready, Quiet, Stepped, Advanced};
+ghost use Rattle.matcher.specs.Progress.{textOf, patternOf, HeadOf, GoodPattern, Ready, Stepped, Advanced};
 
 // The first cells once more behind themselves.
 fn double(cells: &mut [u64], size: usize)
@@ -79,46 +78,6 @@ pub fn prepare(word: &[u8], m: u32, cells: &mut [u64])
     enter(word, m, d, d, cells);
 }
 
-// Moves on as long as the pattern does not stand at the mark. Where it stands, the last eight bits are its own.
-pub fn quiet(
-    text: &[u8],
-    n: u32,
-    word: &[u8],
-    m: u32,
-    h: Head,
-    cells: &[u64],
-    s: Place,
-    budget: u32,
-) -> Hop
-    requires { ⌜ Ready Method.Hash (textOf (now text) n) (patternOf (now word) m) (now cells) ⌝ }
-    requires { ⌜ HeadOf (patternOf (now word) m) (h .bits) (h .cut) ⌝ }
-    requires { ⌜ s .0 ≤ places (textOf (now text) n) (patternOf (now word) m) ⌝ }
-    ensures { λ r. ⌜ Quiet Method.Hash (textOf (now (text .entry)) n) (patternOf (now (word .entry)) m) (s .0) budget (r .at .0) (r .steps) ⌝ }
-{
-    let end = n - m + 1;
-    let back = m - 8;
-    let last = load::byte_inside(word, Place(back));
-    let mut at = s.0;
-    let mut steps = 0u32;
-    while at < end && steps < budget {
-        let v = load::byte_inside(text, Place(at + back));
-        if v == last {
-            if compare::same(text, word, m, h, Place(at)) {
-                return Hop {
-                    at: Place(at),
-                    steps: steps,
-                };
-            }
-        }
-        at += cells[v] as u32;
-        steps += 1;
-    }
-    Hop {
-        at: Place(if at < end { at } else { end }),
-        steps: steps,
-    }
-}
-
 // The next mark behind s, cut at the number of places.
 fn next_mark(text: &[u8], n: u32, word: &[u8], m: u32, cells: &[u64], s: Place) -> u32
     requires { ⌜ Ready Method.Hash (textOf (now text) n) (patternOf (now word) m) (now cells) ⌝ }
@@ -172,7 +131,8 @@ pub fn step(
     }
 }
 
-// Many steps.
+// Many steps: each moves on by the cell of the window's last eight bits, and its place is written if the pattern stands
+// there. Only where these bits are the pattern's own is the rest compared.
 pub fn advance(
     text: &[u8],
     n: u32,
@@ -190,10 +150,35 @@ pub fn advance(
     requires { ⌜ (s .0 ≤ places (textOf (now text) n) (patternOf (now word) m)) × (had ≤ length (now list)) ⌝ }
     ensures { λ r. ⌜ Advanced Method.Hash (textOf (now (text .entry)) n) (patternOf (now (word .entry)) m) (s .0) budget (now (list .entry)) had (r .at .0) (r .steps) (r .hits) (r .full) (now (list .exit)) ⌝ }
 {
+    let end = n - m + 1;
+    let back = m - 8;
+    let last = load::byte_inside(word, Place(back));
+    let mut at = s.0;
+    let mut steps = 0u32;
+    let mut hits = had;
+    while at < end && steps < budget {
+        let v = load::byte_inside(text, Place(at + back));
+        steps += 1;
+        if v == last {
+            if compare::same(text, word, m, h, Place(at)) {
+                if list.len() <= hits {
+                    return Advance {
+                        at: Place(at),
+                        steps: steps,
+                        hits: hits,
+                        full: true,
+                    };
+                }
+                list[hits] = at;
+                hits += 1;
+            }
+        }
+        at += cells[v] as u32;
+    }
     Advance {
-        at: s,
-        steps: 0,
-        hits: had,
+        at: Place(if at < end { at } else { end }),
+        steps: steps,
+        hits: hits,
         full: false,
     }
 }
