@@ -15,12 +15,13 @@ use Rattle.rules.specs.Pattern.{Pattern}
 use Rattle.rules.specs.Occurrence.{places, matches}
 use Rattle.rules.specs.Plain.{plainFinds}
 use Rattle.rules.specs.Step.{finds, ahead, next}
-use Rattle.matcher.specs.Progress.{Ready, Reaches, Quiet, Stepped}
+use Rattle.matcher.specs.Progress.{Ready, Reaches, Stepped, Advanced}
 use Rattle.matcher.specs.Tables.{rowChunks}
 use Rattle.plain.specs.RowCells.{cellFits}
 use Rattle.rules.proofs.Plain.{rows-match}
 use Rattle.plain.proofs.RowCells.{fits-matches}
 use Rattle.matcher.proofs.Progress.{reaches-none, reaches-quiet}
+use Rattle.matcher.proofs.Advancing.{advanced-step, advanced-more}
 use Rattle.matcher.proofs.Writing.{writing-none, writing-more, stepped-whole, stepped-full}
 
 module _ (t : Packed) (w : Pattern) where
@@ -45,15 +46,28 @@ module _ (t : Packed) (w : Pattern) where
       (reaches-quiet Plain t w s (s + d) d (passed s d (omega arith) (λ p l u. f p l (omega arith))) (omega arith)
       (finds-none (s + d) (f (s + d) (omega arith) (omega arith))))
 
-  pub quiet-to : (s at budget : ℕ) → s ≤ at → at ≤ places t w → at ≤ s + budget → ((p : ℕ) → s ≤ p → p < at → matches t w p ≡ false)
-      → Quiet Plain t w s budget at (at - s)
-  quiet-to s at budget l h b f =
-      let there : s + (at - s) ≡ at = omega arith in
-      record {
-        reaches = rw there at (passed s (at - s) (omega arith) (λ p g u. f p g (omega arith)));
-        within = omega arith;
-        inside = h;
-      }
+  -- the steps from the mark `from` have come to the place `at`, one for each place
+  module _ (from budget : ℕ) (before : List ℕ) (had at hits : ℕ) (list : List ℕ) (h : had ≤ length before) (l : from ≤ at)
+      (a : Advanced Plain t w from budget before had at (at - from) hits false list) where
+    -- places more that do not match
+    pub pass-to : (p : ℕ) → at ≤ p → p ≤ places t w → p ≤ from + budget → ((q : ℕ) → at ≤ q → q < p → matches t w q ≡ false)
+        → Advanced Plain t w from budget before had p (p - from) hits false list
+    pass-to p g i b f =
+        let there : at + (p - at) ≡ p = omega arith in
+        let steps : at - from + (p - at) ≡ p - from = omega arith in
+        rw steps at
+        (advanced-more Plain t w from budget before had at (at - from) hits list h a p (p - at)
+        (rw there at (passed at (p - at) (omega arith) (λ q k u. f q k (omega arith)))) (omega arith) i)
+
+    -- and the step at the place behind them
+    pub step-at : (p : ℕ) → at ≤ p → p < places t w → p < from + budget → ((q : ℕ) → at ≤ q → q < p → matches t w q ≡ false)
+        → (at' hits' : ℕ) (no-cell : Bool) (list' : List ℕ) → Stepped Plain t w p list hits at' hits' no-cell list'
+        → Advanced Plain t w from budget before had at' (p + 1 - from) hits' no-cell list'
+    step-at p g i b f at' hits' no-cell list' u =
+        let steps : p - from + 1 ≡ p + 1 - from = omega arith in
+        rw steps at
+        (advanced-step Plain t w from budget before had p (p - from) hits list h (pass-to p g (omega arith) (omega arith) f)
+        at' hits' no-cell list' i (omega arith) u)
 
   -- one step, from a test r of all cells of the row at s
   module _ (cells : List ℕ) (ready : Ready Plain t w cells) (small : (x : ℕ) → getD cells x 0 < 2 ^ 64) (s : ℕ) (inside : s < places t w)

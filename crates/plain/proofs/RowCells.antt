@@ -1,6 +1,6 @@
 -- Comparison by cells of eight row bytes: the cells of a place's row all agree with the text just if the pattern stands there.
 -- Assumes nothing.
-use Prim.Native.Nat.{ℕ, _+_, _-_, _*_, _/_, _%_, _^_, _≤_, _<_, min}
+use Prim.Native.Nat.{ℕ, zero, suc, _+_, _-_, _*_, _/_, _%_, _^_, _≤_, _<_, min}
 use mathlib.Core.Path.{_≡_, refl, sym, ap, ap₂, _∙_}
 use mathlib.Core.Logic.{_↔_}
 use mathlib.Core.Bool.{Bool, true, false}
@@ -15,13 +15,12 @@ use borrow.Author.Tests.{eqb-true, eq-eqb}
 use Rattle.bits.specs.Packed.{Packed, weight, bitAt, bitsAt}
 use Rattle.bits.proofs.Weight.{weight-and, same-weights}
 use Rattle.bits.proofs.Run.{bit-lt, bits-lt, bit-of-bits}
-use Rattle.rules.specs.Ranges.{every}
 use Rattle.rules.specs.Pattern.{Pattern, agrees}
 use Rattle.rules.specs.Occurrence.{matches}
 use Rattle.rules.specs.Plain.{inRow, rowBit, maskBit}
 use Rattle.matcher.specs.Tables.{rowChunks, PlainTables}
 use Rattle.plain.specs.RowCells.{cellFits}
-use Rattle.rules.proofs.Ranges.{not-true-false, same-test, every-at, to-every}
+use Rattle.rules.proofs.Ranges.{not-true-false, same-test}
 use Rattle.rules.proofs.Pattern.{agrees-iff}
 use Rattle.rules.proofs.Occurrence.{matches-at, to-matches}
 use Rattle.rules.proofs.Plain.{in-row, to-in-row, mask-bit-is, row-bit-is}
@@ -33,21 +32,14 @@ granted a = (λ e. a, λ b. refl)
 pub refused : {A : Type 0} → (A → ⊥) → (false ≡ true) ↔ A
 refused h = (λ e. let z : _≡_ {A = ℕ} 0 1 = cc in absurd (omega arith), λ a. absurd (h a))
 
--- a test that fails below n rules out that all pass; and so does one that fails from a number on
-pub one-fails : (n j : ℕ) (f : ℕ → Bool) → j < n → f j ≡ false → every n f ≡ false
-one-fails n j f h e =
-    not-true-false _ (λ all.
-    let both : true ≡ false = sym (every-at n f all j h) ∙ e in
-    let z : _≡_ {A = ℕ} 0 1 = cc in
-    omega arith)
-
-pub rest-fails : (n from : ℕ) (f : ℕ → Bool) (r : Bool) → (r ≡ true) ↔ ((k : ℕ) → from ≤ k → k < n → f k ≡ true)
-    → r ≡ false → every n f ≡ false
-rest-fails n from f r iff e =
-    not-true-false _ (λ all.
-    let both : false ≡ true = sym e ∙ iff .1 (λ k l h. every-at n f all k h) in
-    let z : _≡_ {A = ℕ} 0 1 = cc in
-    omega arith)
+-- a test of all numbers from 1 on is one of all, where 0 passes
+pub with-first : (n : ℕ) (f : ℕ → Bool) (r : Bool) → f 0 ≡ true → (r ≡ true) ↔ ((k : ℕ) → 1 ≤ k → k < n → f k ≡ true)
+    → (r ≡ true) ↔ ((k : ℕ) → 0 ≤ k → k < n → f k ≡ true)
+with-first n f r first iff = (all, λ g. iff .1 (λ k l u. g k (omega arith) u))
+  where
+    all : r ≡ true → (k : ℕ) → 0 ≤ k → k < n → f k ≡ true
+    all e zero l u = first
+    all e (suc k) l u = iff .0 e (suc k) (omega arith) u
 
 module _ (text cells : List ℕ) where
   -- a cell read at its place in the table, and the eight bytes of the text at theirs
@@ -59,18 +51,28 @@ module _ (text cells : List ℕ) where
       let mask : 16 * k + s % 8 + 8 ≡ 16 * k + 8 + s % 8 = omega arith in
       ap₂ (λ (y z : ℕ). eqb (bitAnd y (getD cells z 0)) (getD cells (16 * k + s % 8) 0)) (e ∙ ap (λ (n : ℕ). bitsAt text n 64) bytes) mask
 
-  -- the same of the first cells of the eight rows at byte b: rows that do not agree rule their places out
-  pub block-passed : (b a r x : ℕ) → r ≤ 8 → x ≡ bitsAt text (b * 8) 64
-      → ((i : ℕ) → a ≤ i → i < r → eqb (bitAnd x (getD cells (8 + i) 0)) (getD cells i 0) ≡ false)
-      → (p : ℕ) → 8 * b + a ≤ p → p < 8 * b + r → cellFits text cells p 0 ≡ false
-  block-passed b a r x h e f p l u =
-      let byte : p / 8 ≡ b = omega arith in
+  -- the same of the first cells of the eight rows at byte b
+  block-cell : (b p x : ℕ) → p / 8 ≡ b → x ≡ bitsAt text (b * 8) 64
+      → cellFits text cells p 0 ≡ eqb (bitAnd x (getD cells (8 + p % 8) 0)) (getD cells (p % 8) 0)
+  block-cell b p x byte e =
       let bytes : b * 8 ≡ (p / 8 + 8 * 0) * 8 = omega arith in
       let mask : 16 * 0 + p % 8 + 8 ≡ 8 + p % 8 = omega arith in
       let row : 16 * 0 + p % 8 ≡ p % 8 = omega arith in
       sym (cell-read p 0 x (e ∙ ap (λ (n : ℕ). bitsAt text n 64) bytes))
       ∙ ap₂ (λ (y z : ℕ). eqb (bitAnd x (getD cells y 0)) (getD cells z 0)) mask row
-      ∙ f (p % 8) (omega arith) (omega arith)
+
+  -- rows that do not agree rule their places out
+  pub block-passed : (b a r x : ℕ) → r ≤ 8 → x ≡ bitsAt text (b * 8) 64
+      → ((i : ℕ) → a ≤ i → i < r → eqb (bitAnd x (getD cells (8 + i) 0)) (getD cells i 0) ≡ false)
+      → (p : ℕ) → 8 * b + a ≤ p → p < 8 * b + r → cellFits text cells p 0 ≡ false
+  block-passed b a r x h e f p l u = block-cell b p x (omega arith) e ∙ f (p % 8) (omega arith) (omega arith)
+
+  -- a row that agrees does not
+  pub block-fits : (b r x : ℕ) → r < 8 → x ≡ bitsAt text (b * 8) 64 → eqb (bitAnd x (getD cells (8 + r) 0)) (getD cells r 0) ≡ true
+      → cellFits text cells (8 * b + r) 0 ≡ true
+  block-fits b r x h e f =
+      let row : (8 * b + r) % 8 ≡ r = omega arith in
+      block-cell b (8 * b + r) x (omega arith) e ∙ ap (λ (i : ℕ). eqb (bitAnd x (getD cells (8 + i) 0)) (getD cells i 0)) row ∙ f
 
 module _ (t : Packed) (w : Pattern) (cells : List ℕ) (tables : PlainTables w cells) (s : ℕ) where
   -- tables that are made take their cells: row 7 has its last bit in the last of them
@@ -148,19 +150,19 @@ module _ (t : Packed) (w : Pattern) (cells : List ℕ) (tables : PlainTables w c
             ∙ omega (arith, mask-bit-is w (s % 8) (8 * k + j / 8) (j % 8) false r, row-bit-is w (s % 8) (8 * k + j / 8) (j % 8) false r)
             ∙ sym (tables .row-is (s % 8) k j (omega arith) h l)
 
-    -- all cells of the row
-    pub cells-match : every (rowChunks (w .count)) (cellFits (t .bytes) cells s) ≡ matches t w s
-    cells-match =
-        same-test _ _
-        (λ e. to-matches t w s (λ q l.
-        cell-agrees ((s % 8 + q) / 64) (omega arith)
-        (every-at (rowChunks (w .count)) (cellFits (t .bytes) cells s) e ((s % 8 + q) / 64) (omega arith)) q l (omega arith) (omega arith)))
-        (λ e. to-every (rowChunks (w .count)) (cellFits (t .bytes) cells s) (cell-of e))
+    -- a cell that does not agree rules the place out
+    pub cell-differs : (k : ℕ) → k < rowChunks (w .count) → cellFits (t .bytes) cells s k ≡ false → matches t w s ≡ false
+    cell-differs k h e =
+        not-true-false _ (λ hit.
+        let both : true ≡ false = sym (cell-of hit k h) ∙ e in
+        let z : _≡_ {A = ℕ} 0 1 = cc in
+        omega arith)
 
-    -- so does the test of all cells that row_fits makes
+    -- the test of all cells that row_fits makes
     pub fits-matches : (r : Bool) → (r ≡ true) ↔ ((k : ℕ) → 0 ≤ k → k < rowChunks (w .count) → cellFits (t .bytes) cells s k ≡ true)
         → r ≡ matches t w s
     fits-matches r iff =
         same-test r (matches t w s)
-        (λ e. sym cells-match ∙ to-every (rowChunks (w .count)) (cellFits (t .bytes) cells s) (λ k h. iff .0 e k (omega arith) h))
+        (λ e. to-matches t w s (λ q l.
+        cell-agrees ((s % 8 + q) / 64) (omega arith) (iff .0 e ((s % 8 + q) / 64) (omega arith) (omega arith)) q l (omega arith) (omega arith)))
         (λ e. iff .1 (λ k l h. cell-of e k h))

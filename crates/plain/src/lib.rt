@@ -5,7 +5,6 @@ use bits::Place;
 use bits::load;
 use matcher::Advance;
 use matcher::Found;
-use matcher::Hop;
 use matcher::compare::Head;
 use rules::Method;
 ghost use mathlib.Core.Path.{_≡_};
@@ -16,11 +15,10 @@ ghost use lib.Bits.{bitAnd};
 ghost use lib.Dec.{ltb, eqb};
 ghost use lib.ListN.{length, getD};
 ghost use Rattle.bits.specs.Packed.{bitOf};
-ghost use Rattle.rules.specs.Ranges.{every};
 ghost use Rattle.rules.specs.Occurrence.{places};
 ghost use Rattle.matcher.specs.Tables.{rowChunks, cellsFor, Prepared};
 ghost use Rattle.plain.specs.RowCells.{cellFits, shiftedBit, Filled};
-ghost use Rattle.matcher.specs.Progress.{textOf, patternOf, HeadOf, GoodPattern, Ready, Quiet, Stepped, Advanced};
+ghost use Rattle.matcher.specs.Progress.{textOf, patternOf, HeadOf, GoodPattern, Ready, Stepped, Advanced};
 
 // Ones where the 64 bits from bit 64 k on are the pattern's, zeros past its end.
 fn ones(m: u32, k: u32) -> u64
@@ -81,7 +79,7 @@ pub fn prepare(word: &[u8], m: u32, cells: &mut [u64])
 // The first row from `from` on whose first cell agrees with eight bytes of the text, or 8.
 fn first_row(cells: &[u64], bytes: u64, from: usize) -> usize
     requires { ⌜ (16 ≤ length (now cells)) × (from ≤ 8) ⌝ }
-    ensures { λ r. ⌜ (from ≤ r) × (r ≤ 8) × ((i : ℕ) → from ≤ i → i < r → eqb (bitAnd bytes (getD (now (cells .entry)) (8 + i) 0)) (getD (now (cells .entry)) i 0) ≡ false) ⌝ }
+    ensures { λ r. ⌜ (from ≤ r) × (r ≤ 8) × ((i : ℕ) → from ≤ i → i < r → eqb (bitAnd bytes (getD (now (cells .entry)) (8 + i) 0)) (getD (now (cells .entry)) i 0) ≡ false) × (r < 8 → eqb (bitAnd bytes (getD (now (cells .entry)) (8 + r) 0)) (getD (now (cells .entry)) r 0) ≡ true) ⌝ }
 {
     let mut i = from;
     while i < 8 {
@@ -97,7 +95,7 @@ fn first_row(cells: &[u64], bytes: u64, from: usize) -> usize
 // serves the eight places of a byte.
 fn in_blocks(text: &[u8], cells: &[u64], from: ByteNo, limit: Place) -> Place
     requires { ⌜ (16 ≤ length (now cells)) × (limit .0 ≤ 2 ^ 30 + 1) × (8 * from .0 ≤ limit .0 + 8) ⌝ }
-    ensures { λ r. ⌜ (8 * from .0 ≤ r .0) × (r .0 ≤ limit .0 + 8) × ((p : ℕ) → 8 * from .0 ≤ p → p < r .0 → cellFits (now (text .entry)) (now (cells .entry)) p 0 ≡ false) ⌝ }
+    ensures { λ r. ⌜ (8 * from .0 ≤ r .0) × (r .0 ≤ limit .0 + 8) × ((p : ℕ) → 8 * from .0 ≤ p → p < r .0 → cellFits (now (text .entry)) (now (cells .entry)) p 0 ≡ false) × (r .0 < limit .0 → cellFits (now (text .entry)) (now (cells .entry)) (r .0) 0 ≡ true) ⌝ }
 {
     let end = limit.0 as usize;
     let mut b = from.0;
@@ -114,7 +112,7 @@ fn in_blocks(text: &[u8], cells: &[u64], from: ByteNo, limit: Place) -> Place
 // The first place from s on that the first cell of its row does not rule out, or one from limit on.
 fn candidate(text: &[u8], cells: &[u64], s: Place, limit: Place) -> Place
     requires { ⌜ (16 ≤ length (now cells)) × (limit .0 ≤ 2 ^ 30 + 1) × (s .0 < limit .0) ⌝ }
-    ensures { λ r. ⌜ (s .0 ≤ r .0) × (r .0 ≤ limit .0 + 8) × ((p : ℕ) → s .0 ≤ p → p < r .0 → cellFits (now (text .entry)) (now (cells .entry)) p 0 ≡ false) ⌝ }
+    ensures { λ r. ⌜ (s .0 ≤ r .0) × (r .0 ≤ limit .0 + 8) × ((p : ℕ) → s .0 ≤ p → p < r .0 → cellFits (now (text .entry)) (now (cells .entry)) p 0 ≡ false) × (r .0 < limit .0 → cellFits (now (text .entry)) (now (cells .entry)) (r .0) 0 ≡ true) ⌝ }
 {
     let at = s.0 as usize;
     let b = at / 8;
@@ -143,26 +141,6 @@ fn row_fits(text: &[u8], m: u32, cells: &[u64], s: Place, from: usize) -> bool
     true
 }
 
-// The first place from s on and before limit at which the pattern stands, or limit.
-fn next_match(text: &[u8], m: u32, cells: &[u64], s: Place, limit: Place) -> Place
-    requires { ⌜ (0 < m) × (m ≤ 2048) × (16 * rowChunks m ≤ length (now cells)) × (limit .0 ≤ 2 ^ 30 + 1) × (s .0 ≤ limit .0) ⌝ }
-    ensures { λ r. ⌜ (s .0 ≤ r .0) × (r .0 ≤ limit .0) × ((p : ℕ) → s .0 ≤ p → p < r .0 → every (rowChunks m) (cellFits (now (text .entry)) (now (cells .entry)) p) ≡ false) ⌝ }
-{
-    let end = limit.0;
-    let mut at = s.0;
-    while at < end {
-        let c = candidate(text, cells, Place(at), limit);
-        if end <= c.0 {
-            return limit;
-        }
-        if row_fits(text, m, cells, c, 1) {
-            return c;
-        }
-        at = c.0 + 1;
-    }
-    limit
-}
-
 // As many places from s on as the budget has steps, and at most to `end`.
 fn reach(s: Place, end: Place, budget: u32) -> Place
     requires { ⌜ s .0 ≤ end .0 ⌝ }
@@ -173,30 +151,6 @@ fn reach(s: Place, end: Place, budget: u32) -> Place
         return Place(at + budget);
     }
     end
-}
-
-// Passes the places at which the pattern does not stand; each is one step.
-pub fn quiet(
-    text: &[u8],
-    n: u32,
-    word: &[u8],
-    m: u32,
-    h: Head,
-    cells: &[u64],
-    s: Place,
-    budget: u32,
-) -> Hop
-    requires { ⌜ Ready Method.Plain (textOf (now text) n) (patternOf (now word) m) (now cells) ⌝ }
-    requires { ⌜ HeadOf (patternOf (now word) m) (h .bits) (h .cut) ⌝ }
-    requires { ⌜ s .0 ≤ places (textOf (now text) n) (patternOf (now word) m) ⌝ }
-    ensures { λ r. ⌜ Quiet Method.Plain (textOf (now (text .entry)) n) (patternOf (now (word .entry)) m) (s .0) budget (r .at .0) (r .steps) ⌝ }
-{
-    let limit = reach(s, Place(n - m + 1), budget);
-    let at = next_match(text, m, cells, s, limit);
-    Hop {
-        at: at,
-        steps: at.0 - s.0,
-    }
 }
 
 // One step: the place s is written if the pattern stands there.
@@ -239,7 +193,8 @@ pub fn step(
     }
 }
 
-// Many steps.
+// Many steps, one for each place: those before a candidate find nothing, and the candidate is written if the rest of its
+// row agrees too.
 pub fn advance(
     text: &[u8],
     n: u32,
@@ -257,10 +212,39 @@ pub fn advance(
     requires { ⌜ (s .0 ≤ places (textOf (now text) n) (patternOf (now word) m)) × (had ≤ length (now list)) ⌝ }
     ensures { λ r. ⌜ Advanced Method.Plain (textOf (now (text .entry)) n) (patternOf (now (word .entry)) m) (s .0) budget (now (list .entry)) had (r .at .0) (r .steps) (r .hits) (r .full) (now (list .exit)) ⌝ }
 {
+    let limit = reach(s, Place(n - m + 1), budget);
+    let end = limit.0;
+    let mut at = s.0;
+    let mut hits = had;
+    while at < end {
+        let c = candidate(text, cells, Place(at), limit);
+        let p = c.0;
+        if end <= p {
+            return Advance {
+                at: limit,
+                steps: end - s.0,
+                hits: hits,
+                full: false,
+            };
+        }
+        at = p + 1;
+        if row_fits(text, m, cells, c, 1) {
+            if list.len() <= hits {
+                return Advance {
+                    at: c,
+                    steps: at - s.0,
+                    hits: hits,
+                    full: true,
+                };
+            }
+            list[hits] = p;
+            hits += 1;
+        }
+    }
     Advance {
-        at: s,
-        steps: 0,
-        hits: had,
+        at: limit,
+        steps: end - s.0,
+        hits: hits,
         full: false,
     }
 }

@@ -4,7 +4,7 @@ use Prim.Native.Nat.{_+_, _*_, _/_, _%_}
 use native.Mathlib.Omega.{arith}
 use denote.Ref.{now}
 use Rattle.plain.proofs.Between.{between-join}
-use Rattle.plain.proofs.RowCells.{block-passed}
+use Rattle.plain.proofs.RowCells.{block-passed, block-fits}
 use borrow.Author.Needs.{needs}
 use Rattle.plain.proofs.candidate.Statement.{statement}
 use Rattle.plain.proofs.candidate.Tie as tie
@@ -35,6 +35,8 @@ returns c =
       λ p g u.
           block-passed (now (a .text)) (now (a .cells)) (a .s .0 / 8) (a .s .0 % 8) _ _ (c .before .first-row .ensures .1) (c .before .before .word-at-byte .ensures)
           (c .before .first-row .ensures .2) p (omega arith) (omega arith),
+      λ u.
+          block-fits (now (a .text)) (now (a .cells)) (a .s .0 / 8) _ _ (c .if1 .taken) (c .before .before .word-at-byte .ensures) (c .before .first-row .ensures .3 (c .if1 .taken)),
     )
 
 add-t10 : tie.Need-add-t10
@@ -53,6 +55,7 @@ returns-2 c =
           block-passed (now (a .text)) (now (a .cells)) (a .s .0 / 8) (a .s .0 % 8) _ _ (c .before .before .first-row .ensures .1) (c .before .before .before .word-at-byte .ensures)
           (c .before .before .first-row .ensures .2) p (omega arith) (omega arith))
           (c .in-blocks .ensures .2),
+      c .in-blocks .ensures .3,
     )
 
 pub candidate-spec : {M : Type 1} → statement M

@@ -8,7 +8,7 @@ use native.Mathlib.Omega.{arith}
 use denote.Ref.{now}
 use Rattle.plain.specs.RowCells.{cellFits}
 use Rattle.plain.proofs.Between.{Between, between-none, between-join}
-use Rattle.plain.proofs.RowCells.{block-passed}
+use Rattle.plain.proofs.RowCells.{block-passed, block-fits}
 use Rattle.plain.proofs.in_blocks.Statement.{statement}
 use Rattle.plain.proofs.in_blocks.Tie as tie
 
@@ -51,6 +51,8 @@ returns c =
       between-join _ _ (8 * l .b) _ (l .inv .2) (λ p g u.
           block-passed (now (a .text)) (now (a .cells)) (l .b) 0 _ _ (c .before .first-row .ensures .1) (c .before .before .word-at-byte .ensures)
           (c .before .first-row .ensures .2) p (omega arith) (omega arith)),
+      λ u.
+          block-fits (now (a .text)) (now (a .cells)) (l .b) _ _ (c .if1 .taken) (c .before .before .word-at-byte .ensures) (c .before .first-row .ensures .3 (c .if1 .taken)),
     )
 
 add-b : tie.Need-add-b Inv-loop μ-loop
@@ -77,7 +79,7 @@ cast-t16 : tie.Need-cast-t16 Inv-loop μ-loop
 cast-t16 c = search needs
 
 returns-2 : tie.Need-returns-2 Inv-loop μ-loop
-returns-2 c = (omega arith, omega arith, c .before .loop .inv .2)
+returns-2 c = (omega arith, omega arith, c .before .loop .inv .2, λ u. absurd (omega arith))
 
 pub in-blocks-spec : {M : Type 1} → statement M
 in-blocks-spec =
