@@ -22,7 +22,7 @@ use Rattle.rules.specs.Wide.{wideFinds}
 use Rattle.rules.specs.Step.{finds}
 use Rattle.matcher.specs.Tables.{passes, WideTables}
 use Rattle.matcher.specs.Progress.{textOf}
-use Rattle.wide.specs.Flags.{Stand, Keeps, NoneFrom}
+use Rattle.wide.specs.Flags.{Stand, Keeps}
 use Rattle.rules.proofs.Ranges.{not-true-false, among-same}
 use Rattle.rules.proofs.Occurrence.{matches-at, occurs-inside, none-from-places, occurrences-append, occurrences-none, occurrences-one, occurrences-further, occurrences-to}
 use Rattle.rules.proofs.Wide.{flagged-occurs}
@@ -44,6 +44,10 @@ keeps-more cells q x f k r u i h g =
     let one : weight r i ≡ 1 = u i h (λ j l. g j (omega arith)) in
     let two : weight (getD cells (2 * (q + k) + bitOf 8 x k) 0) i ≡ 1 = g k (omega arith) in
     weight-and r (getD cells (2 * (q + k) + bitOf 8 x k) 0) i ∙ ap₂ min one two
+
+-- the pattern stands at no place from a on and before b
+abbrev pub NoneFrom : Packed → Pattern → ℕ → ℕ → Type 0
+NoneFrom t w a b = (p : ℕ) → a ≤ p → p < b → matches t w p ≡ false
 
 module _ (t : Packed) (w : Pattern) where
   -- Flags of the 64 places from s on
@@ -126,10 +130,6 @@ module _ (t : Packed) (w : Pattern) where
       sym (occurrences-to t w s (min (s + 64) (places t w)) (s + 64) (omega arith) (omega arith)
       (λ p l u. none-from-places t w p (omega arith)) (λ p l u. absurd (omega arith))
       ∙ rw count (sym (among-same _ _ s 64 (flagged-occurs t w s))))
-
-  -- a step at none of whose places the pattern stands
-  pub finds-none : (s : ℕ) → s < places t w → NoneFrom (textOf (t .bytes) 0) w s (min (s + 64) (places t w)) → finds Wide t w s ≡ []
-  finds-none s h n = wide-finds s h ∙ occurrences-none t w s (min (s + 64) (places t w)) (none-occurs s (min (s + 64) (places t w)) n)
 
   -- the step's places from a to p are passed, and the pattern does not stand there
   pub passed-none : (s a p : ℕ) → s ≤ a → a ≤ p → NoneFrom (textOf (t .bytes) 0) w a p → occurrences t w s a ≡ occurrences t w s p

@@ -1,7 +1,7 @@
 -- What the parts of the wide method promise each other: flags that still stand, and the move to the next mark.
 use Prim.Native.Nat.{ℕ, _+_, _-_, _*_, _≤_, _<_}
 use mathlib.Core.Path.{_≡_}
-use mathlib.Core.Bool.{true, false}
+use mathlib.Core.Bool.{true}
 use mathlib.Core.List.{List}
 use lib.ListN.{getD}
 use Rattle.bits.specs.Packed.{Packed, bitOf, weight}
@@ -17,10 +17,6 @@ Stand t w a b f = (p : ℕ) → a ≤ p → p < b → matches t w p ≡ true →
 unfoldable pub Keeps : List ℕ → ℕ → ℕ → ℕ → ℕ → Type 0
 Keeps cells q x f r =
     (i : ℕ) → weight f i ≡ 1 → ((j : ℕ) → j < 8 → weight (getD cells (2 * (q + j) + bitOf 8 x j) 0) i ≡ 1) → weight r i ≡ 1
-
--- The pattern stands at no place from a on and before b.
-abbrev pub NoneFrom : Packed → Pattern → ℕ → ℕ → Type 0
-NoneFrom t w a b = (p : ℕ) → a ≤ p → p < b → matches t w p ≡ false
 
 -- r is how far the next mark lies ahead where the bit behind the window is c
 pub record Move (w : Pattern) (c r : ℕ) : Type 0 where

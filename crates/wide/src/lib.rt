@@ -5,20 +5,18 @@ use bits::bit;
 use bits::load;
 use matcher::Advance;
 use matcher::Found;
-use matcher::Hop;
 use matcher::compare;
 use matcher::compare::Head;
 use rules::Method;
 ghost use mathlib.Core.Path.{_≡_};
-ghost use mathlib.Core.Bool.{false, cond};
+ghost use mathlib.Core.Bool.{cond};
 ghost use Prim.Native.Nat.{_+_, _*_, _^_, _≤_, _<_, min};
 ghost use lib.ListN.{length};
-ghost use Rattle.bits.specs.Packed.{bitsAt};
 ghost use Rattle.rules.specs.Occurrence.{places};
 ghost use Rattle.rules.specs.Step.{next};
 ghost use Rattle.matcher.specs.Tables.{cellsFor, passes, WideTables, Prepared};
-ghost use Rattle.wide.specs.Flags.{Stand, Keeps, NoneFrom, Move};
-ghost use Rattle.matcher.specs.Progress.{textOf, patternOf, HeadOf, GoodPattern, Ready, Quiet, Stepped, Advanced};
+ghost use Rattle.wide.specs.Flags.{Stand, Keeps, Move};
+ghost use Rattle.matcher.specs.Progress.{textOf, patternOf, HeadOf, GoodPattern, Ready, Stepped, Advanced};
 
 // Every flag stands.
 const ALL: u64 = 18446744073709551615;
@@ -122,13 +120,6 @@ fn keep8(cells: &[u64], q: usize, x: usize, flags: u64) -> u64
     f
 }
 
-// The eight bits of the text from p on.
-fn eight(text: &[u8], p: Place) -> usize
-    ensures { λ r. ⌜ r ≡ bitsAt (now (text .entry)) (p .0) 8 ⌝ }
-{
-    load::byte_at(text, p) as usize
-}
-
 // At most one flag stands: further window bits would cost more than a comparison.
 fn few(f: u64) -> bool {
     f == 0 || f & (f - 1) == 0
@@ -137,7 +128,7 @@ fn few(f: u64) -> bool {
 // The flags left by every second byte of the window from bit `from` on, as far as flag 63 needs.
 fn pass(text: &[u8], word: &[u8], m: u32, cells: &[u64], s: Place, from: u32, flags: u64) -> u64
     requires { ⌜ WideTables (patternOf (now word) m) (now cells) ⌝ }
-    requires { ⌜ (m ≤ 2048) × (s .0 ≤ 2 ^ 30) × (from ≤ 8) ⌝ }
+    requires { ⌜ (m ≤ 2048) × (s .0 + 63 + m ≤ 2 ^ 30) × (s .0 + 63 + m ≤ length (now text) * 8) × (from ≤ 8) ⌝ }
     requires { ⌜ Stand (textOf (now text) 0) (patternOf (now word) m) (s .0) (s .0 + 64) flags ⌝ }
     ensures { λ r. ⌜ Stand (textOf (now (text .entry)) 0) (patternOf (now (word .entry)) m) (s .0) (s .0 + 64) r ⌝ }
 {
@@ -145,7 +136,7 @@ fn pass(text: &[u8], word: &[u8], m: u32, cells: &[u64], s: Place, from: u32, fl
     let mut f = flags;
     let mut q = from;
     while q <= 72 && q + 8 <= m + 63 {
-        f = keep8(cells, q as usize, eight(text, Place(at + q)), f);
+        f = keep8(cells, q as usize, load::byte_inside(text, Place(at + q)), f);
         q += 16;
     }
     f
@@ -154,7 +145,7 @@ fn pass(text: &[u8], word: &[u8], m: u32, cells: &[u64], s: Place, from: u32, fl
 // A pattern below 64 bits: no window bit speaks for all flags, so every second byte, and then the others.
 fn scan_short(text: &[u8], word: &[u8], m: u32, cells: &[u64], s: Place) -> u64
     requires { ⌜ WideTables (patternOf (now word) m) (now cells) ⌝ }
-    requires { ⌜ (m ≤ 2048) × (s .0 ≤ 2 ^ 30) ⌝ }
+    requires { ⌜ (m ≤ 2048) × (s .0 + 63 + m ≤ 2 ^ 30) × (s .0 + 63 + m ≤ length (now text) * 8) ⌝ }
     ensures { λ r. ⌜ Stand (textOf (now (text .entry)) 0) (patternOf (now (word .entry)) m) (s .0) (s .0 + 64) r ⌝ }
 {
     let f = pass(text, word, m, cells, s, 0, ALL);
@@ -167,15 +158,20 @@ fn scan_short(text: &[u8], word: &[u8], m: u32, cells: &[u64], s: Place) -> u64
 // A longer pattern: window bits from 56 on, each of which speaks for nearly all flags.
 fn scan_long(text: &[u8], word: &[u8], m: u32, cells: &[u64], s: Place) -> u64
     requires { ⌜ WideTables (patternOf (now word) m) (now cells) ⌝ }
-    requires { ⌜ (m ≤ 2048) × (s .0 ≤ 2 ^ 30) ⌝ }
+    requires { ⌜ (m ≤ 2048) × (s .0 + 63 + m ≤ 2 ^ 30) × (s .0 + 63 + m ≤ length (now text) * 8) ⌝ }
     ensures { λ r. ⌜ Stand (textOf (now (text .entry)) 0) (patternOf (now (word .entry)) m) (s .0) (s .0 + 64) r ⌝ }
 {
     let at = s.0;
     let mut f = ALL;
     let mut q = 56u32;
     while q + 16 <= m + 63 {
-        f = keep8(cells, q as usize, eight(text, Place(at + q)), f);
-        f = keep8(cells, (q + 8) as usize, eight(text, Place(at + q + 8)), f);
+        f = keep8(cells, q as usize, load::byte_inside(text, Place(at + q)), f);
+        f = keep8(
+            cells,
+            (q + 8) as usize,
+            load::byte_inside(text, Place(at + q + 8)),
+            f,
+        );
         if few(f) {
             return f;
         }
@@ -184,81 +180,20 @@ fn scan_long(text: &[u8], word: &[u8], m: u32, cells: &[u64], s: Place) -> u64
     f
 }
 
-// Flags for the 64 places from s on.
-fn scan(text: &[u8], word: &[u8], m: u32, cells: &[u64], s: Place) -> u64
+// Flags for the 64 places from s on. Where the window does not lie whole in the text all of them stand, since its bytes may
+// not be there.
+fn scan(text: &[u8], n: u32, word: &[u8], m: u32, cells: &[u64], s: Place) -> u64
     requires { ⌜ WideTables (patternOf (now word) m) (now cells) ⌝ }
-    requires { ⌜ (m ≤ 2048) × (s .0 ≤ 2 ^ 30) ⌝ }
+    requires { ⌜ (m ≤ 2048) × (s .0 ≤ 2 ^ 30) × (n ≤ 2 ^ 30) × (n ≤ length (now text) * 8) ⌝ }
     ensures { λ r. ⌜ Stand (textOf (now (text .entry)) 0) (patternOf (now (word .entry)) m) (s .0) (s .0 + 64) r ⌝ }
 {
+    if n <= s.0 + 63 + m {
+        return ALL;
+    }
     if m < 64 {
         scan_short(text, word, m, cells, s)
     } else {
         scan_long(text, word, m, cells, s)
-    }
-}
-
-// Whether the pattern stands at a place from s on and before `stop`, lowest flag first.
-fn any_hit(text: &[u8], word: &[u8], m: u32, h: Head, s: Place, stop: Place, flags: u64) -> bool
-    requires { ⌜ (0 < m) × (m ≤ 2048) × (s .0 ≤ stop .0) × (stop .0 ≤ 2 ^ 30) ⌝ }
-    requires { ⌜ HeadOf (patternOf (now word) m) (h .bits) (h .cut) ⌝ }
-    requires { ⌜ Stand (textOf (now text) 0) (patternOf (now word) m) (s .0) (stop .0) flags ⌝ }
-    ensures { λ r. ⌜ (r ≡ false → NoneFrom (textOf (now (text .entry)) 0) (patternOf (now (word .entry)) m) (s .0) (stop .0)) ⌝ }
-{
-    let end = stop.0;
-    let mut at = s.0;
-    let mut f = flags;
-    while f != 0 {
-        let i = u64::trailing_zeros(f);
-        let p = at + i;
-        if end <= p {
-            return false;
-        }
-        if compare::same(text, word, m, h, Place(p)) {
-            return true;
-        }
-        f = (f >> i) >> 1;
-        at = p + 1;
-    }
-    false
-}
-
-// Steps that find nothing. Both moves are made once for all of them.
-pub fn quiet(
-    text: &[u8],
-    n: u32,
-    word: &[u8],
-    m: u32,
-    h: Head,
-    cells: &[u64],
-    s: Place,
-    budget: u32,
-) -> Hop
-    requires { ⌜ Ready Method.Wide (textOf (now text) n) (patternOf (now word) m) (now cells) ⌝ }
-    requires { ⌜ HeadOf (patternOf (now word) m) (h .bits) (h .cut) ⌝ }
-    requires { ⌜ s .0 ≤ places (textOf (now text) n) (patternOf (now word) m) ⌝ }
-    ensures { λ r. ⌜ Quiet Method.Wide (textOf (now (text .entry)) n) (patternOf (now (word .entry)) m) (s .0) budget (r .at .0) (r .steps) ⌝ }
-{
-    let end = n - m + 1;
-    let zero = move_of(word, m, cells, 0);
-    let one = move_of(word, m, cells, 1);
-    let mut at = s.0;
-    let mut steps = 0u32;
-    while at < end && steps < budget {
-        let stop = cut(at + 64, end);
-        let flags = scan(text, word, m, cells, Place(at));
-        if any_hit(text, word, m, h, Place(at), stop, flags) {
-            return Hop {
-                at: Place(at),
-                steps: steps,
-            };
-        }
-        let to = next_mark(text, n, word, m, zero, one, Place(at));
-        at = to.0;
-        steps += 1;
-    }
-    Hop {
-        at: Place(at),
-        steps: steps,
     }
 }
 
@@ -338,11 +273,12 @@ pub fn step(
     let one = move_of(word, m, cells, 1);
     let to = next_mark(text, n, word, m, zero, one, s);
     let stop = cut(s.0 + 64, n - m + 1);
-    let flags = scan(text, word, m, cells, s);
+    let flags = scan(text, n, word, m, cells, s);
     settle(text, n, word, m, h, s, to, stop, flags, list, had)
 }
 
-// Many steps.
+// Many steps with their list, until the budget or the cells are used up or no place is left. Both moves are made once for all of
+// them.
 pub fn advance(
     text: &[u8],
     n: u32,
@@ -360,10 +296,42 @@ pub fn advance(
     requires { ⌜ (s .0 ≤ places (textOf (now text) n) (patternOf (now word) m)) × (had ≤ length (now list)) ⌝ }
     ensures { λ r. ⌜ Advanced Method.Wide (textOf (now (text .entry)) n) (patternOf (now (word .entry)) m) (s .0) budget (now (list .entry)) had (r .at .0) (r .steps) (r .hits) (r .full) (now (list .exit)) ⌝ }
 {
+    if budget == 0 {
+        return Advance {
+            at: s,
+            steps: 0,
+            hits: had,
+            full: false,
+        };
+    }
+    let all = n - m + 1;
+    let zero = move_of(word, m, cells, 0);
+    let one = move_of(word, m, cells, 1);
+    let mut at = s.0;
+    let mut steps = 0u32;
+    let mut hits = had;
+    while at < all && steps < budget {
+        let to = next_mark(text, n, word, m, zero, one, Place(at));
+        let stop = cut(at + 64, all);
+        let flags = scan(text, n, word, m, cells, Place(at));
+        let found = settle(text, n, word, m, h, Place(at), to, stop, flags, list, hits);
+        hits = found.hits;
+        steps += 1;
+        let there = found.at;
+        if found.full {
+            return Advance {
+                at: there,
+                steps: steps,
+                hits: hits,
+                full: true,
+            };
+        }
+        at = to.0;
+    }
     Advance {
-        at: s,
-        steps: 0,
-        hits: had,
+        at: Place(at),
+        steps: steps,
+        hits: hits,
         full: false,
     }
 }

@@ -33,8 +33,8 @@ cast-keep8 c = omega arith
 add-t17 : tie.Need-add-t17 Inv-loop μ-loop
 add-t17 c = omega arith
 
-eight-requires : tie.Need-eight-requires Inv-loop μ-loop
-eight-requires c κs = search needs
+byte-inside-requires : tie.Need-byte-inside-requires Inv-loop μ-loop
+byte-inside-requires c κs = omega (arith, leb-true)
 
 keep8-requires : tie.Need-keep8-requires Inv-loop μ-loop
 keep8-requires c κs =
@@ -57,8 +57,8 @@ loop-again c =
     let t = textOf (now (a .text)) 0 in
     let w = patternOf (now (a .word)) (a .m) in
     let l = c .before .before .before .before .loop in (
-      stand-keep t w (now (a .cells)) (a .s .0) (l .q) (c .before .eight .result) (l .f) (c .keep8 .result) (s .pre .0)
-          (omega (arith, leb-true)) (c .before .eight .ensures) (c .keep8 .ensures) (l .inv .0),
+      stand-keep t w (now (a .cells)) (a .s .0) (l .q) (c .before .byte-inside .result) (l .f) (c .keep8 .result) (s .pre .0)
+          (omega (arith, leb-true)) (c .before .byte-inside .ensures) (c .keep8 .ensures) (l .inv .0),
       omega arith,
     )
 
@@ -79,7 +79,7 @@ pass-spec =
     add-if1-2
     cast-keep8
     add-t17
-    eight-requires
+    byte-inside-requires
     keep8-requires
     add-q
     loop-less

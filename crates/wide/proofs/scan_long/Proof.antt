@@ -30,10 +30,10 @@ left c =
     let w = patternOf (now (a .word)) (a .m) in
     let l = c .before .before .before .before .before .loop in
     let there = ap (λ (p : ℕ). bitsAt (now (a .text)) p 8) (add-assoc (a .s .0) (l .q) 8) in
-    stand-keep t w (now (a .cells)) (a .s .0) (l .q + 8) (c .before .eight2 .result) (c .before .before .keep8 .result) (c .keep82 .result) (s .pre .0)
-    (omega arith) (c .before .eight2 .ensures ∙ there) (c .keep82 .ensures)
-    (stand-keep t w (now (a .cells)) (a .s .0) (l .q) (c .before .before .before .eight .result) (l .f) (c .before .before .keep8 .result) (s .pre .0)
-    (omega arith) (c .before .before .before .eight .ensures) (c .before .before .keep8 .ensures) (l .inv .0))
+    stand-keep t w (now (a .cells)) (a .s .0) (l .q + 8) (c .before .byte-inside2 .result) (c .before .before .keep8 .result) (c .keep82 .result) (s .pre .0)
+    (omega arith) (c .before .byte-inside2 .ensures ∙ there) (c .keep82 .ensures)
+    (stand-keep t w (now (a .cells)) (a .s .0) (l .q) (c .before .before .before .byte-inside .result) (l .f) (c .before .before .keep8 .result) (s .pre .0)
+    (omega arith) (c .before .before .before .byte-inside .ensures) (c .before .before .keep8 .ensures) (l .inv .0))
 
 loop-holds : tie.Need-loop-holds Inv-loop μ-loop
 loop-holds c =
@@ -55,8 +55,8 @@ cast-keep8 c = omega arith
 add-t9 : tie.Need-add-t9 Inv-loop μ-loop
 add-t9 c = omega arith
 
-eight-requires : tie.Need-eight-requires Inv-loop μ-loop
-eight-requires c κs = search needs
+byte-inside-requires : tie.Need-byte-inside-requires Inv-loop μ-loop
+byte-inside-requires c κs = search needs
 
 keep8-requires : tie.Need-keep8-requires Inv-loop μ-loop
 keep8-requires c κs =
@@ -78,8 +78,8 @@ add-t9-2 c = omega arith
 add-t15 : tie.Need-add-t15 Inv-loop μ-loop
 add-t15 c = omega arith
 
-eight-requires-2 : tie.Need-eight-requires-2 Inv-loop μ-loop
-eight-requires-2 c κs = search needs
+byte-inside-requires-2 : tie.Need-byte-inside-requires-2 Inv-loop μ-loop
+byte-inside-requires-2 c κs = search needs
 
 keep8-requires-2 : tie.Need-keep8-requires-2 Inv-loop μ-loop
 keep8-requires-2 c κs =
@@ -118,13 +118,13 @@ scan-long-spec =
     add-loop-2
     cast-keep8
     add-t9
-    eight-requires
+    byte-inside-requires
     keep8-requires
     add-keep8
     cast-keep8-2
     add-t9-2
     add-t15
-    eight-requires-2
+    byte-inside-requires-2
     keep8-requires-2
     few-requires
     returns
