@@ -1,4 +1,5 @@
 -- The laws of the wide method's tables and steps.
 pub mod WideTables
+pub mod WideBytes
 pub mod WideMoves
 pub mod WideFlags

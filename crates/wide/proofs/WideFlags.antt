@@ -24,7 +24,7 @@ use Rattle.matcher.specs.Tables.{passes, WideTables}
 use Rattle.matcher.specs.Progress.{textOf}
 use Rattle.wide.specs.Flags.{Stand, Keeps}
 use Rattle.rules.proofs.Ranges.{not-true-false, among-same}
-use Rattle.rules.proofs.Occurrence.{matches-at, occurs-inside, none-from-places, occurrences-append, occurrences-none, occurrences-one, occurrences-further, occurrences-to}
+use Rattle.rules.proofs.Occurrence.{matches-at, occurs-inside, none-from-places, occurrences-append, occurrences-one, occurrences-further, occurrences-to}
 use Rattle.rules.proofs.Wide.{flagged-occurs}
 use Rattle.wide.proofs.WideTables.{bitFor, weight-zero, weight-ones, trailing-below, passes-to}
 

@@ -1,27 +1,24 @@
--- Laws of the wide method's table: what a flag of a cell is, how a cell comes from the one before it, and the table as it
--- is filled; and of the lowest flag that is set.
+-- Laws of the wide method's table: what a flag of a cell is, that flags move up with the window bits, and the table as it is
+-- filled; and of the lowest flag that is set.
 -- Assumes nothing.
-use mathlib.Core.Path.{_≡_, refl, sym, ap, ap₂, _∙_}
+use mathlib.Core.Path.{_≡_, refl, sym, ap, _∙_}
 use mathlib.Core.Logic.{_⊎_, inl, inr}
 use mathlib.Core.Bool.{Bool, true, false, _&&_, cond}
 use mathlib.Core.List.{List}
-use Prim.Native.Nat.{ℕ, zero, suc, _+_, _-_, _*_, _/_, _%_, _^_, _≤_, _<_, max}
+use Prim.Native.Nat.{ℕ, zero, suc, _+_, _-_, _*_, _/_, _%_, _^_, _≤_, _<_}
 use native.Mathlib.Nat.{zero-div, not-suc-le-zero, le-of-suc-le-suc}
 use native.Mathlib.Decide.{decLe}
 use native.Mathlib.Omega.{arith}
 use lib.Dec.{leb, ltb}
-use lib.Bits.{bitOr}
 use lib.Count.{trailingZeros, under}
-use lib.ListN.{length, getD, drop, set, length-set, List·getD-eq-default}
+use lib.ListN.{length, getD, drop, set, List·getD-eq-default}
 use lib.Pow.{high, ones-lt, ones-split}
-use lib.Seq.{getD-set-same, getD-set-other, drop-set-lt}
 use borrow.Author.Tests.{ltb-true, lt-ltb, leb-true, le-leb}
-use Rattle.bits.specs.Packed.{bitAt, weight}
-use Rattle.bits.proofs.Weight.{weight-out, weight-shr, weight-shl, weight-shl-low, weight-mod, weight-or, same-weights}
+use Rattle.bits.specs.Packed.{weight}
+use Rattle.bits.proofs.Weight.{weight-shr, same-weights}
 use Rattle.rules.specs.Pattern.{Pattern, agrees}
 use Rattle.matcher.specs.Tables.{passes, WideTables}
-use Rattle.rules.proofs.Ranges.{and-left, and-right, to-implies, same-test, not-true-false, eq-or-below}
-use Rattle.rules.proofs.Pattern.{agrees-iff}
+use Rattle.rules.proofs.Ranges.{and-left, and-right, to-implies, same-test}
 
 -- A bit for a test
 
@@ -64,7 +61,7 @@ weight-ones k i h =
 
 -- The lowest bit that is set
 
-half-weight : (n i : ℕ) → weight n (suc i) ≡ weight (n / 2) i
+pub half-weight : (n i : ℕ) → weight n (suc i) ≡ weight (n / 2) i
 half-weight n i = ap (weight n) (omega arith) ∙ sym (weight-shr n 1 i)
 
 pub trailing-below : (k n i : ℕ) → i < trailingZeros k n → weight n i ≡ 0
@@ -117,26 +114,17 @@ module _ (w : Pattern) (c : ℕ) where
   passes-high q i h = passes-to q i (λ l u. absurd (omega arith))
 
   -- flag 0
-  passes-first : (q : ℕ) → q < w .count → passes w c q 0 ≡ agrees w q c
+  pub passes-first : (q : ℕ) → q < w .count → passes w c q 0 ≡ agrees w q c
   passes-first q h = passes-in q 0 (omega arith) (omega arith) ∙ ap (λ (n : ℕ). agrees w n c) (omega arith)
 
-  pub enters-lit : (q : ℕ) → q < w .count → c ≡ bitAt (w .bytes) q → 1 ≡ bitFor (passes w c q 0)
-  enters-lit q h e = sym (ap bitFor (passes-first q h ∙ agrees-iff w q c .1 e))
-
-  pub enters-unlit : (q : ℕ) → q < w .count → (c ≡ bitAt (w .bytes) q → ⊥) → 0 ≡ bitFor (passes w c q 0)
-  enters-unlit q h ne = sym (ap bitFor (passes-first q h ∙ not-true-false _ (λ e. ne (agrees-iff w q c .0 e))))
-
-  pub enters-past : (q : ℕ) → w .count ≤ q → 1 ≡ bitFor (passes w c q 0)
-  enters-past q h = sym (ap bitFor (passes-high q 0 (omega arith)))
-
-  -- one bit and one flag further on
-  pub passes-up : (q i : ℕ) → passes w c (q + 1) (suc i) ≡ passes w c q i
-  passes-up q i =
-      let d : q + 1 - suc i ≡ q - i = omega arith in
+  -- k bits and k flags further on
+  pub passes-along : (q i k : ℕ) → passes w c (q + k) (i + k) ≡ passes w c q i
+  passes-along q i k =
+      let d : q + k - (i + k) ≡ q - i = omega arith in
       same-test _ _
       (λ e. passes-to q i (λ l u.
-      ap (λ (n : ℕ). agrees w n c) (sym d) ∙ sym (passes-in (q + 1) (suc i) (omega arith) (omega arith)) ∙ e))
-      (λ e. passes-to (q + 1) (suc i) (λ l u.
+      ap (λ (n : ℕ). agrees w n c) (sym d) ∙ sym (passes-in (q + k) (i + k) (omega arith) (omega arith)) ∙ e))
+      (λ e. passes-to (q + k) (i + k) (λ l u.
       ap (λ (n : ℕ). agrees w n c) d ∙ sym (passes-in q i (omega arith) (omega arith)) ∙ e))
 
   -- x has the flags of window bit q
@@ -151,44 +139,7 @@ module _ (w : Pattern) (c : ℕ) where
   before-none i l = weight-ones 64 i l ∙ sym (ap bitFor (passes-low 0 (suc i) (omega arith)))
 
   pub before-next : (q x : ℕ) → Flags q x → Before (q + 1) x
-  before-next q x f i l = f i l ∙ sym (ap bitFor (passes-up q i))
-
-  max-zero : (y : ℕ) → max y 0 ≡ y
-  max-zero y = omega arith
-
-  zero-max : (y : ℕ) → max 0 y ≡ y
-  zero-max y = omega arith
-
-  -- the flags move up by one, and flag 0 is new
-  pub flags-next : (q x e : ℕ) → Before q x → e ≡ cond (passes w c q 0) 1 0 → Flags q (bitOr ((x * 2) % 2 ^ 64) e)
-  flags-next q x e b h = each
-    where
-      moved : ℕ
-      moved = (x * 2) % 2 ^ 64
-
-      small : (t : Bool) → e ≡ bitFor t → e < 2
-      small true p = omega arith
-      small false p = omega arith
-
-      e-lt : e < 2
-      e-lt = small (passes w c q 0) h
-
-      itself : weight e 0 ≡ e
-      itself = omega (arith, e-lt)
-
-      each : Flags q (bitOr moved e)
-      each zero l =
-          weight-or moved e 0
-          ∙ ap₂ max (weight-mod (x * 2) {w = 64} {i = 0} l ∙ weight-shl-low x {s = 1} {i = 0} (omega arith)) itself
-          ∙ zero-max e
-          ∙ h
-      each (suc i) l =
-          weight-or moved e (suc i)
-          ∙ ap₂ max
-          (weight-mod (x * 2) {w = 64} {i = suc i} l ∙ ap (weight (x * 2)) (omega arith) ∙ weight-shl x 1 i)
-          (weight-out {x = e} {w = 1} {i = suc i} e-lt (omega arith))
-          ∙ max-zero (weight x i)
-          ∙ b i (omega arith)
+  before-next q x f i l = f i l ∙ sym (ap bitFor (ap (passes w c (q + 1)) (omega arith) ∙ passes-along q i 1))
 
 -- The table
 
@@ -200,50 +151,6 @@ pub record Filled (w : Pattern) (before cells : List ℕ) (q : ℕ) : Type 0 whe
 
 pub filled-none : (w : Pattern) (before : List ℕ) → Filled w before before 0
 filled-none w before = record { flags = λ p c i l. absurd (omega arith); size = refl; behind = refl }
-
-module _ (w : Pattern) (before cells : List ℕ) (q : ℕ) (f : Filled w before cells q) (inside : q < 63 + w .count) (room : 2 * (63 + w .count) ≤ length before) (z o : ℕ) (fz : Flags w 0 q z) (fo : Flags w 1 q o) where
-  abbrev made : List ℕ
-  made = set (set cells (2 * q) z) (2 * q + 1) o
-
-  first : getD made (2 * q) 0 ≡ z
-  first =
-      getD-set-other (set cells (2 * q) z) (2 * q + 1) (2 * q) o 0 (λ e. omega arith)
-      ∙ getD-set-same cells (2 * q) z 0 (omega (arith, f .size))
-
-  second : getD made (2 * q + 1) 0 ≡ o
-  second = getD-set-same (set cells (2 * q) z) (2 * q + 1) o 0 (omega (arith, f .size, length-set cells (2 * q) z))
-
-  others : (k : ℕ) → k < 2 * q → getD made k 0 ≡ getD cells k 0
-  others k l =
-      getD-set-other (set cells (2 * q) z) (2 * q + 1) k o 0 (λ e. omega arith)
-      ∙ getD-set-other cells (2 * q) k z 0 (λ e. omega arith)
-
-  flag-made : (p c i : ℕ) → i < 64 → c < 2 → (p ≡ q) ⊎ (p < q) → (c ≡ 0) ⊎ (c ≡ 1)
-      → weight (getD made (2 * p + c) 0) i ≡ bitFor (passes w c p i)
-  flag-made p c i l u (inr b) k = ap (λ (x : ℕ). weight x i) (others (2 * p + c) (omega arith)) ∙ f .flags p c i b u l
-  flag-made p c i l u (inl e) (inl k) =
-      let there : 2 * p + c ≡ 2 * q = omega arith in
-      ap (λ (n : ℕ). weight (getD made n 0) i) there
-      ∙ ap (λ (x : ℕ). weight x i) first
-      ∙ fz i l
-      ∙ ap₂ (λ (a b : ℕ). bitFor (passes w a b i)) (sym k) (sym e)
-  flag-made p c i l u (inl e) (inr k) =
-      let there : 2 * p + c ≡ 2 * q + 1 = omega arith in
-      ap (λ (n : ℕ). weight (getD made n 0) i) there
-      ∙ ap (λ (x : ℕ). weight x i) second
-      ∙ fo i l
-      ∙ ap₂ (λ (a b : ℕ). bitFor (passes w a b i)) (sym k) (sym e)
-
-  pub filled-more : Filled w before (set (set cells (2 * q) z) (2 * q + 1) o) (q + 1)
-  filled-more =
-      record {
-        flags = λ p c i l u h. flag-made p c i h u (eq-or-below (omega arith)) (bit-or-bit c u);
-        size = length-set (set cells (2 * q) z) (2 * q + 1) o ∙ length-set cells (2 * q) z ∙ f .size;
-        behind =
-            drop-set-lt (2 * (63 + w .count)) (set cells (2 * q) z) (2 * q + 1) o (omega arith)
-            ∙ drop-set-lt (2 * (63 + w .count)) cells (2 * q) z (omega arith)
-            ∙ f .behind;
-      }
 
 -- The last cell is not 0, so the cells are there.
 pub tables-long : (w : Pattern) (cells : List ℕ) → WideTables w cells → 2 * (63 + w .count) ≤ length cells

@@ -1,13 +1,45 @@
--- What the parts of the wide method promise each other: flags that still stand, and the move to the next mark.
-use Prim.Native.Nat.{ℕ, _+_, _-_, _*_, _≤_, _<_}
+-- What the parts of the wide method promise each other: eight window bits at a time as they enter the table, flags that
+-- still stand, and the move to the next mark.
+use Prim.Native.Nat.{ℕ, _+_, _-_, _*_, _/_, _%_, _^_, _≤_, _<_}
 use mathlib.Core.Path.{_≡_}
-use mathlib.Core.Bool.{true}
+use mathlib.Core.Bool.{true, cond}
 use mathlib.Core.List.{List}
-use lib.ListN.{getD}
-use Rattle.bits.specs.Packed.{Packed, bitOf, weight}
+use lib.Bits.{bitOr}
+use lib.Dec.{leb}
+use lib.ListN.{length, getD, drop}
+use Rattle.bits.specs.Packed.{Packed, bitAt, bitOf, weight}
 use Rattle.rules.specs.Pattern.{Pattern}
 use Rattle.rules.specs.Occurrence.{matches}
 use Rattle.rules.specs.Wide.{window, lastIndex, beyond}
+use Rattle.matcher.specs.Tables.{passes}
+
+-- Of the eight window bits from q on, those from m on are set in y, and no other.
+pub record Padding (m q y : ℕ) : Type 0 where
+  pub small : y < 2 ^ 8
+  pub bits : (j : ℕ) → j < 8 → bitOf 8 y j ≡ cond (leb m (q + j)) 1 0
+
+-- y has the pattern's bits from q on, as far as the pattern and eight bits go.
+pub record ByteFrom (w : Pattern) (q y : ℕ) : Type 0 where
+  pub small : y < 2 ^ 8
+  pub bits : (j : ℕ) → j < 8 → q + j < w .count → bitOf 8 y j ≡ bitAt (w .bytes) (q + j)
+
+-- y has flag 0 of each of the eight window bits from q on, being c.
+pub record Enters (w : Pattern) (c q y : ℕ) : Type 0 where
+  pub small : y < 2 ^ 8
+  pub flags : (j : ℕ) → j < 8 → bitOf 8 y j ≡ cond (passes w c (q + j) 0) 1 0
+
+-- The flags x moved up by r + 1, and below them the first r + 1 of the eight bits y.
+abbrev pub moved : ℕ → ℕ → ℕ → ℕ
+moved x y r = bitOr ((x * 2 ^ (r + 1)) % 2 ^ 64) (y / 2 ^ (7 - r))
+
+-- The cells of k window bits from q on are made of the flags before bit q, one number for each value of a bit, and of the
+-- bits that enter. The others are as they were.
+pub record Entered (before cells : List ℕ) (q k zero one y x : ℕ) : Type 0 where
+  pub zeros : (r : ℕ) → r < k → getD cells (2 * (q + r)) 0 ≡ moved zero y r
+  pub ones : (r : ℕ) → r < k → getD cells (2 * (q + r) + 1) 0 ≡ moved one x r
+  pub below : (i : ℕ) → i < 2 * q → getD cells i 0 ≡ getD before i 0
+  pub behind : (i : ℕ) → 2 * (q + k) ≤ i → drop i cells ≡ drop i before
+  pub size : length cells ≡ length before
 
 -- The flag of each place from a on and before b at which the pattern stands is set in f; others may be.
 unfoldable pub Stand : Packed → Pattern → ℕ → ℕ → ℕ → Type 0

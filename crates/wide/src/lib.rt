@@ -9,30 +9,83 @@ use matcher::compare;
 use matcher::compare::Head;
 use rules::Method;
 ghost use mathlib.Core.Path.{_≡_};
-ghost use mathlib.Core.Bool.{cond};
-ghost use Prim.Native.Nat.{_+_, _*_, _^_, _≤_, _<_, min};
+ghost use Prim.Native.Nat.{_+_, _*_, _%_, _^_, _≤_, _<_, min};
 ghost use lib.ListN.{length};
+ghost use Rattle.bits.specs.Packed.{bytesFor};
 ghost use Rattle.rules.specs.Occurrence.{places};
 ghost use Rattle.rules.specs.Step.{next};
-ghost use Rattle.matcher.specs.Tables.{cellsFor, passes, WideTables, Prepared};
-ghost use Rattle.wide.specs.Flags.{Stand, Keeps, Move};
+ghost use Rattle.matcher.specs.Tables.{cellsFor, WideTables, Prepared};
+ghost use Rattle.wide.specs.Flags.{Padding, ByteFrom, Enters, Entered, Stand, Keeps, Move};
 ghost use Rattle.matcher.specs.Progress.{textOf, patternOf, HeadOf, GoodPattern, Ready, Stepped, Advanced};
 
 // Every flag stands.
 const ALL: u64 = 18446744073709551615;
 
-// Flag 0 of window bit q if it is c.
-fn enters(word: &[u8], m: u32, q: u32, c: u8) -> u64
-    ensures { λ r. ⌜ r ≡ cond (passes (patternOf (now (word .entry)) m) c q 0) 1 0 ⌝ }
+// Two numbers: one for window bits that are 0, and one for those that are 1.
+struct Pair {
+    zero: u64,
+    one: u64,
+}
+
+// Ones for those of the eight window bits from q on that lie behind the pattern, the first bit highest.
+fn padding(m: u32, q: u32) -> u64
+    requires { ⌜ q ≤ 4096 ⌝ }
+    ensures { λ r. ⌜ Padding m q r ⌝ }
+{
+    if q + 8 <= m {
+        return 0;
+    }
+    if m <= q {
+        return 255;
+    }
+    255 >> (m - q)
+}
+
+// The pattern's byte from bit q on, 0 where q lies behind the pattern.
+fn byte_or_none(word: &[u8], m: u32, q: u32) -> u64
+    requires { ⌜ (bytesFor m ≤ length (now word)) × (q % 8 ≡ 0) ⌝ }
+    ensures { λ r. ⌜ ByteFrom (patternOf (now (word .entry)) m) q r ⌝ }
 {
     if q < m {
-        if bit::bit(word, Place(q)) == c { 1 } else { 0 }
+        word[(q / 8) as usize] as u64
     } else {
-        1
+        0
     }
 }
 
-// The flags of each window bit are those of the bit before it, moved up by one, and a new flag 0.
+// Flag 0 of each of the eight window bits from q on, the first bit highest.
+fn entering(word: &[u8], m: u32, q: u32) -> Pair
+    requires { ⌜ (bytesFor m ≤ length (now word)) × (q % 8 ≡ 0) × (q ≤ 4096) ⌝ }
+    ensures { λ r. ⌜ Enters (patternOf (now (word .entry)) m) 0 q (r .zero) × Enters (patternOf (now (word .entry)) m) 1 q (r .one) ⌝ }
+{
+    let pad = padding(m, q);
+    let b = byte_or_none(word, m, q);
+    Pair {
+        zero: (255 - b) | pad,
+        one: b | pad,
+    }
+}
+
+// Makes the cells of k window bits from q on. The flags of each are those before bit q, moved up, and below them a new flag
+// of each bit from q on.
+fn enter(q: u32, k: usize, old: Pair, new: Pair, cells: &mut [u64])
+    requires { ⌜ (k ≤ 8) × (q ≤ 4096) × (2 * (q + k) ≤ length (now cells)) ⌝ }
+    ensures { λ _. ⌜ Entered (now (cells .entry)) (now (cells .exit)) q k (old .zero) (old .one) (new .zero) (new .one) ⌝ }
+{
+    let zero = old.zero;
+    let one = old.one;
+    let y = new.zero;
+    let x = new.one;
+    let at = (2 * q) as usize;
+    let mut r = 0usize;
+    while r < k {
+        cells[at + 2 * r] = (zero << (r + 1)) | (y >> (7 - r));
+        cells[at + 2 * r + 1] = (one << (r + 1)) | (x >> (7 - r));
+        r += 1;
+    }
+}
+
+// The table, eight window bits at a time. The last ones, fewer than eight, lie behind the pattern.
 pub fn prepare(word: &[u8], m: u32, cells: &mut [u64])
     requires { ⌜ GoodPattern Method.Wide (patternOf (now word) m) ⌝ }
     requires { ⌜ cellsFor Method.Wide m ≤ length (now cells) ⌝ }
@@ -41,14 +94,35 @@ pub fn prepare(word: &[u8], m: u32, cells: &mut [u64])
     let mut zero = ALL;
     let mut one = ALL;
     let mut q = 0u32;
-    while q < m + 63 {
-        zero = (zero << 1) | enters(word, m, q, 0);
-        one = (one << 1) | enters(word, m, q, 1);
-        let at = (2 * q) as usize;
-        cells[at] = zero;
-        cells[at + 1] = one;
-        q += 1;
+    while q + 8 <= m + 63 {
+        let new = entering(word, m, q);
+        enter(
+            q,
+            8,
+            Pair {
+                zero: zero,
+                one: one,
+            },
+            new,
+            cells,
+        );
+        zero = (zero << 8) | new.zero;
+        one = (one << 8) | new.one;
+        q += 8;
     }
+    enter(
+        q,
+        (m + 63 - q) as usize,
+        Pair {
+            zero: zero,
+            one: one,
+        },
+        Pair {
+            zero: 255,
+            one: 255,
+        },
+        cells,
+    );
 }
 
 // How far the next mark lies ahead where the bit behind the window is c. The flags of the window bit at the highest index

@@ -3,11 +3,10 @@
 use borrow.Author.Needs.{needs}
 use mathlib.Core.Path.{_≡_, sym, _∙_, ap}
 use mathlib.Core.Bool.{false}
-use Prim.Native.Nat.{_+_, _-_, _≤_, min}
+use Prim.Native.Nat.{_+_, _-_, min}
 use native.Mathlib.Omega.{arith}
 use borrow.Author.Tests.{ltb-true}
 use denote.Ref.{now}
-use lib.ListN.{length}
 use Rattle.rules.specs.declared.Method.the-variants.{Wide}
 use Rattle.rules.specs.Occurrence.{places}
 use Rattle.matcher.specs.Progress.{textOf, patternOf, Advanced}

@@ -1,6 +1,5 @@
 -- `wide::pass` meets its contract. The loop's invariant: the flags of occurrences stand.
 -- Assumes nothing.
-use borrow.Author.Needs.{needs}
 use Prim.Native.Nat.{_+_, _-_, _≤_}
 use native.Mathlib.Omega.{arith}
 use borrow.Author.Tests.{leb-true}

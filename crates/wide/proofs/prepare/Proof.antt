@@ -1,19 +1,19 @@
--- `wide::prepare` meets its contract. The loop's invariant: the cells of the window bits passed are made, and
--- the two numbers have the flags of the last of them.
+-- `wide::prepare` meets its contract. The loop's invariant: the cells of the window bits passed are made, and the two numbers
+-- have the flags of the last of them.
 -- Assumes nothing.
-use borrow.Author.Needs.{needs}
-use Prim.Native.Nat.{_+_, _-_, _≤_}
+use mathlib.Core.Path.{_≡_, _∙_}
+use Prim.Native.Nat.{_+_, _-_, _%_, _≤_}
 use native.Mathlib.Omega.{arith}
 use denote.Ref.{now}
-use lib.ListN.{length-set}
 use Rattle.matcher.specs.Progress.{patternOf}
-use Rattle.wide.proofs.WideTables.{Before, before-none, before-next, flags-next, Filled, filled-none, filled-more}
+use Rattle.wide.proofs.WideTables.{Before, before-none, Filled, filled-none}
+use Rattle.wide.proofs.WideBytes.{enters-past, before-moved, filled-more}
 use Rattle.wide.proofs.prepare.Statement.{statement}
 use Rattle.wide.proofs.prepare.Tie as tie
 
 abbrev Inv-loop : tie.InvT-loop
 Inv-loop word m cells₀ zero₀ one₀ q₀ cells zero one q =
-    (q ≤ 63 + m) × Filled (patternOf word m) cells₀ cells q × Before (patternOf word m) 0 q zero × Before (patternOf word m) 1 q one
+    (q ≤ 63 + m) × (q % 8 ≡ 0) × Filled (patternOf word m) cells₀ cells q × Before (patternOf word m) 0 q zero × Before (patternOf word m) 1 q one
 
 abbrev μ-loop : tie.MeasureT-loop
 μ-loop word m cells₀ zero₀ one₀ q₀ cells zero one q = 63 + m - q
@@ -22,66 +22,66 @@ loop-holds : tie.Need-loop-holds Inv-loop μ-loop
 loop-holds c =
     let a = c .before .before .args in
     let w = patternOf (now (a .word)) (a .m) in
-    (omega arith, filled-none w (now (a .cells)), before-none w 0, before-none w 1)
+    (omega arith, omega arith, filled-none w (now (a .cells)), before-none w 0, before-none w 1)
 
 add-loop : tie.Need-add-loop Inv-loop μ-loop
-add-loop c = omega arith
+add-loop c = omega (arith, c .before .before .before .pre .0 .few-bits)
 
-enters-requires : tie.Need-enters-requires Inv-loop μ-loop
-enters-requires c κs = search needs
+add-loop-2 : tie.Need-add-loop-2 Inv-loop μ-loop
+add-loop-2 c = omega (arith, c .before .before .before .pre .0 .few-bits)
 
-enters-requires-2 : tie.Need-enters-requires-2 Inv-loop μ-loop
-enters-requires-2 c κs = search needs
+entering-requires : tie.Need-entering-requires Inv-loop μ-loop
+entering-requires c κs = let good = c .before .before .before .before .pre .0 in omega (arith, good .few-bits, good .bytes-there)
 
-mul-at : tie.Need-mul-at Inv-loop μ-loop
-mul-at c = omega arith
-
-cast-at : tie.Need-cast-at Inv-loop μ-loop
-cast-at c = omega arith
-
-mul-cells : tie.Need-mul-cells Inv-loop μ-loop
-mul-cells c = omega arith
-
-slice-write-cells : tie.Need-slice-write-cells Inv-loop μ-loop
-slice-write-cells c = omega (arith, c .before .before .before .loop .inv .1 .size)
-
-add-cells : tie.Need-add-cells Inv-loop μ-loop
-add-cells c = omega arith
-
-mul-cells-2 : tie.Need-mul-cells-2 Inv-loop μ-loop
-mul-cells-2 c = omega arith
-
-slice-write-cells-2 : tie.Need-slice-write-cells-2 Inv-loop μ-loop
-slice-write-cells-2 c = simp length-set (omega (arith, c .before .before .before .loop .inv .1 .size))
+enter-requires : tie.Need-enter-requires Inv-loop μ-loop
+enter-requires c κs = let s = c .before .before .before .before .before .before in omega (arith, s .pre .0 .few-bits, s .pre .1, c .before .before .before .loop .inv .2 .size)
 
 add-q : tie.Need-add-q Inv-loop μ-loop
-add-q c = omega arith
+add-q c = omega (arith, c .before .before .before .before .before .before .before .before .before .before .before .pre .0 .few-bits)
 
 loop-less : tie.Need-loop-less Inv-loop μ-loop
 loop-less c = omega arith
 
 loop-again : tie.Need-loop-again Inv-loop μ-loop
 loop-again c =
-    let s = c .before .before .before .before .before .before in
-    let a = s .args in
+    let a = c .before .before .before .before .before .before .before .before .before .before .before .args in
     let w = patternOf (now (a .word)) (a .m) in
-    let l = c .before .before .before .loop in
-    let z = flags-next w 0 (l .q) (l .zero) (c .before .enters .result) (l .inv .2) (c .before .enters .ensures) in
-    let o = flags-next w 1 (l .q) (l .one) (c .enters2 .result) (l .inv .3) (c .enters2 .ensures) in (
+    let l = c .before .before .before .before .before .before .before .before .loop in
+    let new = c .before .before .before .before .before .before .entering in
+    let made = c .before .before .before .before .enter in (
       omega arith,
-      filled-more w (now (a .cells)) (l .cells) (l .q) (l .inv .1) (omega arith) (s .pre .1) _ _ z o,
-      before-next w 0 (l .q) _ z,
-      before-next w 1 (l .q) _ o,
+      omega arith,
+      filled-more w (now (a .cells)) (l .cells) (made .last .1 .1 .1 .1 .0) (l .q) 8 (l .zero) (l .one) (new .result .zero) (new .result .one) (l .inv .2) (made .ensures)
+          (omega arith) (omega arith) (l .inv .3) (l .inv .4) (new .ensures .0) (new .ensures .1),
+      before-moved w 0 (l .q) (l .zero) (new .result .zero) (l .inv .3) (new .ensures .0),
+      before-moved w 1 (l .q) (l .one) (new .result .one) (l .inv .4) (new .ensures .1),
     )
 
+add-enter : tie.Need-add-enter Inv-loop μ-loop
+add-enter c = omega (arith, c .before .before .before .before .pre .0 .few-bits)
+
+sub-enter : tie.Need-sub-enter Inv-loop μ-loop
+sub-enter c = omega arith
+
+cast-enter : tie.Need-cast-enter Inv-loop μ-loop
+cast-enter c = omega arith
+
+enter-requires-2 : tie.Need-enter-requires-2 Inv-loop μ-loop
+enter-requires-2 c κs = let s = c .before .before .before .before .before in omega (arith, s .pre .0 .few-bits, s .pre .1, c .before .before .loop .inv .2 .size)
+
 same-length : tie.Need-same-length Inv-loop μ-loop
-same-length c = search needs
+same-length c = c .before .before .enter2 .ensures .size ∙ c .before .before .before .before .before .loop .inv .2 .size
 
 returns : tie.Need-returns Inv-loop μ-loop
 returns c =
-    let f = c .before .loop .inv .1 in
+    let a = c .before .before .before .before .before .before .before .before .args in
+    let w = patternOf (now (a .word)) (a .m) in
+    let l = c .before .before .before .before .before .loop in
+    let made = c .before .before .enter2 in
+    let f = filled-more w (now (a .cells)) (l .cells) (made .last .1 .1 .1 .1 .0) (l .q) (a .m + 63 - l .q) (l .zero) (l .one) 255 255 (l .inv .2) (made .ensures)
+    (omega arith) (omega arith) (l .inv .3) (l .inv .4) (enters-past w 0 (l .q) (omega arith)) (enters-past w 1 (l .q) (omega arith)) in
     record {
-      tables = record { flags-are = λ q b i l u h. f .flags q b i (omega arith) u h };
+      tables = record { flags-are = λ q b i u v h. f .flags q b i (omega arith) v h };
       size = f .size;
       behind = f .behind;
     }
@@ -94,17 +94,15 @@ prepare-spec =
     μ-loop
     loop-holds
     add-loop
-    enters-requires
-    enters-requires-2
-    mul-at
-    cast-at
-    mul-cells
-    slice-write-cells
-    add-cells
-    mul-cells-2
-    slice-write-cells-2
+    add-loop-2
+    entering-requires
+    enter-requires
     add-q
     loop-less
     loop-again
+    add-enter
+    sub-enter
+    cast-enter
+    enter-requires-2
     same-length
     returns)
