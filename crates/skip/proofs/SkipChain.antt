@@ -44,6 +44,15 @@ pub chained-span : (s m : ℕ) → s % 8 ≡ 1 → 15 ≤ m → 8 * ((s + m) / 8
 unfolding chained
 chained-span s m e long = omega arith
 
+-- the byte of the next mark, 8 b + 1
+pub next-byte : (b m : ℕ) → 15 ≤ m → b + ((m + 1) / 8 - 1) ≡ (8 * b + 1 + m) / 8 - 1
+next-byte b m long = omega arith
+
+-- the byte of the mark that lies so many places before it
+pub mark-byte : (b m : ℕ) → chained m ≤ 8 * b → 15 ≤ m → (8 * b + 1 - chained m + m) / 8 - 1 ≡ b
+unfolding chained
+mark-byte b m low long = omega arith
+
 module _ (w : Pattern) (B : ℕ) where
   -- the last index below k + 1 that shows B, by whether k does
   pub shown-here : (k : ℕ) → bitsAt (w .bytes) k 8 ≡ B → lastShown w B (suc k) ≡ suc k
@@ -131,9 +140,6 @@ module _ (w : Pattern) (cells : List ℕ) (tables : SkipTables w cells) (B h : �
   pub headed-first : B < 256 → h ≤ chained (w .count) → Headed w B h (getD cells B 0)
   headed-first l fits =
       record { bound = chained (w .count); chain = tables .head-is B l; over = omega arith; within = omega arith }
-
-  pub headed-own : (j : ℕ) → lastShown w B j ≡ j → h ≤ j → j ≤ chained (w .count) → Headed w B h j
-  headed-own j e l fits = record { bound = j; chain = sym e; over = l; within = fits }
 
   module _ (j : ℕ) (k : Headed w B h j) where
     pub headed-within : j ≤ chained (w .count)

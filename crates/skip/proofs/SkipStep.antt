@@ -1,14 +1,12 @@
 -- Laws of a step of the skip method: the places that it finds are the occurrences up to 8 b + 1, one after the other.
 -- Assumes nothing.
-use Prim.Native.Nat.{ℕ, _+_, _-_, _*_, _/_, _≤_, _<_, min}
+use Prim.Native.Nat.{ℕ, _+_, _-_, _*_, _/_, _%_, _≤_, _<_, min}
 use mathlib.Core.Path.{_≡_, refl, sym, ap, _∙_}
 use mathlib.Core.Bool.{Bool, true, false}
 use mathlib.Core.List.{List, [], _∷_, _++_}
 use native.Mathlib.Nat.{sub-zero}
 use native.Mathlib.Omega.{arith}
-use borrow.Author.Tests.{lt-ltb, ltb-false}
-use lib.Dec.{ltb}
-use lib.ListN.{length, set, length-append}
+use lib.ListN.{length, set}
 use Rattle.bits.specs.Packed.{Packed}
 use Rattle.rules.specs.declared.Method.the-variants.{Skip}
 use Rattle.rules.specs.Ranges.{keep}
@@ -16,14 +14,14 @@ use Rattle.rules.specs.Pattern.{Pattern}
 use Rattle.rules.specs.Occurrence.{places, matches, occurs, occurrences}
 use Rattle.rules.specs.Skip.{lastByte, skipFinds}
 use Rattle.rules.specs.Step.{finds, ahead, next}
-use Rattle.matcher.specs.Tables.{lastShown}
-use Rattle.matcher.specs.Progress.{textOf, Reaches, Stepped, Writing}
+use Rattle.matcher.specs.Tables.{chained, lastShown}
+use Rattle.matcher.specs.Progress.{textOf, Stepped, Writing, Advanced}
 use Rattle.rules.proofs.Ranges.{among-same}
 use Rattle.rules.proofs.Occurrence.{occurs-inside, occurrences-append, occurrences-one}
-use Rattle.matcher.proofs.Progress.{reaches-quiet, reaches-join}
+use Rattle.matcher.proofs.Advancing.{advanced-step, advanced-miss}
 use Rattle.matcher.proofs.Writing.{writing-more, writing-length, stepped-whole, stepped-full}
 use Rattle.rules.proofs.Skip.{reaches-byte, contains-byte, shown-occurs}
-use Rattle.skip.proofs.SkipChain.{byteOf, walk-start}
+use Rattle.skip.proofs.SkipChain.{chained-span, byteOf, walk-start}
 
 module _ (t : Packed) (w : Pattern) where
   -- the occurrences from s to e, from an occurrence a among them on
@@ -51,16 +49,6 @@ module _ (t : Packed) (w : Pattern) where
         rw (sub-zero (8 * lastByte w s + 1)) at
         (walk-start t w (lastByte w s) s 0 (contains-byte w s long s (omega arith) low) (omega arith) (omega (arith, e)))
 
-  -- a step more that finds nothing
-  pub quiet-more : (s p k q : ℕ) → 15 ≤ w .count → Reaches Skip t w s k [] p → p < places t w
-      → occurrences t w p (8 * lastByte w p + 1) ≡ [] → q ≡ min (8 * lastByte w p + 1) (places t w) → Reaches Skip t w s (k + 1) [] q
-  quiet-more s p k q long f h e there =
-      rw there (rw (skip-next-is p long) at (reaches-quiet Skip t w s p k f h (skip-finds-are p long ∙ e)))
-
-  -- two parts that find nothing
-  pub quiet-join : (s p q i j k : ℕ) → Reaches Skip t w s j [] p → Reaches Skip t w p k [] q → i ≡ j + k → Reaches Skip t w s i [] q
-  quiet-join s p q i j k f g e = rw e (reaches-join Skip t w s p q j k [] [] f g)
-
   module _ (s : ℕ) (before : List ℕ) (had : ℕ) (list : List ℕ) (hits a : ℕ) (u : Writing before had (occurrences t w s a) list hits) where
     -- a is written, and nothing is found before q
     pub written-more : (q : ℕ) → occurrences t w s q ≡ occurrences t w s a ++ a ∷ [] → hits < length list
@@ -87,25 +75,48 @@ module _ (t : Packed) (w : Pattern) where
         rw (there ∙ sym (skip-next-is s long))
         (stepped-whole Skip t w s before had list hits (rw (skip-finds-are s long ∙ sym e) u))
 
-  -- an occurrence among those from p to e
-  pub some-occurrence : (p a e : ℕ) → p ≤ a → a < e → occurs t w a ≡ true → ltb 0 (length (occurrences t w p e)) ≡ true
-  some-occurrence p a e l h o =
-      let parts : length (occurrences t w p e) ≡ length (occurrences t w p a) + length (a ∷ occurrences t w (a + 1) e)
-      = ap length (occurrences-at p a e l h o) ∙ length-append (occurrences t w p a) (a ∷ occurrences t w (a + 1) e) in
-      lt-ltb 0 (length (occurrences t w p e)) (omega arith)
+  -- A turn of many steps: a step more from a mark 8 a + 1 below E, by its last byte b.
+  module _ (s budget : ℕ) (before : List ℕ) (had at steps hits : ℕ) (list : List ℕ) (room : had ≤ length before)
+      (made : Advanced Skip t w s budget before had (min at (places t w)) steps hits false list)
+      (inside : at < places t w) (few : steps < budget) (long : 15 ≤ w .count) (b : ℕ) (odd : at % 8 ≡ 1) (last : b ≡ lastByte w at) where
+    here : min at (places t w) ≡ at
+    here = omega arith
 
-  -- no occurrence is left, in two parts
-  pub none-in-parts : (p q e : ℕ) → p ≤ q → q ≤ e → occurrences t w p q ≡ [] → ltb 0 (length (occurrences t w q e)) ≡ false → occurrences t w p e ≡ []
-  none-in-parts p q e l h none rest =
-      occurrences-append t w p q e l h ∙ ap (λ (r : List ℕ). r ++ occurrences t w q e) none ∙ nothing (occurrences t w q e) (ltb-false _ _ rest)
-    where
-      nothing : (r : List ℕ) → length r ≤ 0 → r ≡ []
-      nothing [] z = refl
-      nothing (x ∷ r) z = absurd (omega arith)
+    span : 8 * lastByte w at + 1 - at ≡ chained (w .count)
+    span = chained-span at (w .count) odd long
+
+    turn-mark : 8 * b + 1 - chained (w .count) ≡ at
+    turn-mark = omega (arith, span, reaches-byte w at long)
+
+    ahead-is : next Skip t w at ≡ min (8 * b + 1) (places t w)
+    ahead-is = rw last (skip-next-is at long)
+
+    -- its chain is empty
+    pub turn-empty : lastShown w (byteOf t w b) (chained (w .count)) ≡ 0 → Advanced Skip t w s budget before had (min (8 * b + 1) (places t w)) (steps + 1) hits false list
+    turn-empty e =
+        let none : lastShown w (byteOf t w (lastByte w at)) (8 * lastByte w at + 1 - at) ≡ 0 = rw (span, ← last) e in
+        rw ahead-is at
+        (advanced-miss Skip t w s budget before had at steps hits list room (rw here at made) inside few (skip-finds-are at long ∙ empty-chain at long none))
+
+    -- its chain is walked
+    pub turn-step : (at' hits' : ℕ) (no-cell : Bool) (list' : List ℕ) → Stepped Skip t w (8 * b + 1 - chained (w .count)) list hits at' hits' no-cell list'
+        → Advanced Skip t w s budget before had at' (steps + 1) hits' no-cell list'
+    turn-step at' hits' no-cell list' u =
+        advanced-step Skip t w s budget before had at steps hits list room (rw here at made) at' hits' no-cell list' inside few (rw turn-mark at u)
+
+    -- each of its places has a cell
+    pub turn-whole : (at' hits' : ℕ) (list' : List ℕ) → Stepped Skip t w (8 * b + 1 - chained (w .count)) list hits at' hits' false list'
+        → Advanced Skip t w s budget before had (min (8 * b + 1) (places t w)) (steps + 1) hits' false list'
+    turn-whole at' hits' list' u =
+        let one : Stepped Skip t w at list hits at' hits' false list' = rw turn-mark at u in
+        rw (one .mark ∙ ahead-is) at (turn-step at' hits' false list' u)
 
 -- how far the places of a step reach: the index of each fits into the pattern
 pub span-fits : (s m : ℕ) → 15 ≤ m → 8 * ((s + m) / 8 - 1) + 1 - s + 7 ≤ m
 span-fits s m long = omega arith
+
+pub below-top : (x j : ℕ) → 0 < j → j ≤ x → x - j < x
+below-top x j g l = omega arith
 
 -- a link j of a walk over the places p to 8 b, and the links that are not above `over` lie from E on
 module _ (n m b p j over : ℕ) (fits : m ≤ n) (is : over ≡ 8 * b + 1 - (n - m + 1)) (up : j + p ≤ 8 * b + 1) where

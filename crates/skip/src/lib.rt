@@ -6,28 +6,17 @@ use bits::Place;
 use bits::load;
 use matcher::Advance;
 use matcher::Found;
-use matcher::Hop;
 use matcher::compare;
 use matcher::compare::Head;
 use rules::Method;
 ghost use mathlib.Core.Path.{_≡_};
 ghost use mathlib.Core.List.{_++_};
 ghost use Prim.Native.Nat.{_+_, _-_, _*_, _≤_, _<_, min};
-ghost use lib.Dec.{ltb};
 ghost use lib.ListN.{length, drop, replicate};
 ghost use Rattle.bits.specs.Packed.{bitsAt};
-ghost use Rattle.rules.specs.Occurrence.{places, occurrences};
-ghost use Rattle.rules.specs.Skip.{lastByte};
+ghost use Rattle.rules.specs.Occurrence.{places};
 ghost use Rattle.matcher.specs.Tables.{cellsFor, chained, lastShown, SkipTables, Prepared};
-ghost use Rattle.matcher.specs.Progress.{textOf, patternOf, HeadOf, GoodPattern, Ready, Quiet, Stepped, Advanced};
-
-// Where steps over empty chains end: the mark, the steps made, and the link with which the mark's chain begins, or 0 where
-// no step is due.
-struct Halt {
-    at: Place,
-    steps: u32,
-    link: u64,
-}
+ghost use Rattle.matcher.specs.Progress.{textOf, patternOf, HeadOf, GoodPattern, Ready, Stepped, Advanced};
 
 // Every chain empty.
 fn clear(cells: &mut [u64])
@@ -109,128 +98,11 @@ fn over(mark: u32, end: u32) -> u32
     if end < mark { mark - end } else { 0 }
 }
 
-// Whether the pattern stands at a place of byte b's chain, from the link on; the place of a link j is 8 b + 1 - j.
-fn stands(
-    text: &[u8],
-    n: u32,
-    word: &[u8],
-    m: u32,
-    h: Head,
-    cells: &[u64],
-    b: ByteNo,
-    link: u64,
-) -> bool
-    requires { ⌜ Ready Method.Skip (textOf (now text) n) (patternOf (now word) m) (now cells) ⌝ }
-    requires { ⌜ HeadOf (patternOf (now word) m) (h .bits) (h .cut) ⌝ }
-    requires { ⌜ (8 * b .0 + 8 ≤ n) × (link ≤ 8 * b .0 + 1) × (link ≤ chained m) ⌝ }
-    requires { ⌜ lastShown (patternOf (now word) m) (bitsAt (now text) (8 * b .0) 8) link ≡ link ⌝ }
-    ensures { λ r. ⌜ r ≡ ltb 0 (length (occurrences (textOf (now (text .entry)) n) (patternOf (now (word .entry)) m) (8 * b .0 + 1 - link) (8 * b .0 + 1))) ⌝ }
-{
-    let byte = b.0;
-    let top = (8 * byte + 1) as u32;
-    let low = over(top, n - m + 1);
-    let mut j = link;
-    while (low as u64) < j {
-        if compare::same(text, word, m, h, Place((top as u64 - j) as u32)) {
-            return true;
-        }
-        j = cells[(255 + j) as usize];
-    }
-    false
-}
-
 // A mark cut down to the number of places.
 fn cut(mark: u32, end: u32) -> u32
     ensures { λ r. ⌜ r ≡ min mark end ⌝ }
 {
     if mark < end { mark } else { end }
-}
-
-// Steps whose byte the pattern shows at none of their places. From the mark 8 b + 1 on, the byte is b + (m + 1) / 8 - 1.
-// Where a link is given, a step is due, and the link heads the chain of its places. From any other mark it makes no step:
-// only a call's first mark is one.
-fn pass(text: &[u8], n: u32, word: &[u8], m: u32, cells: &[u64], s: Place, budget: u32) -> Halt
-    requires { ⌜ Ready Method.Skip (textOf (now text) n) (patternOf (now word) m) (now cells) ⌝ }
-    requires { ⌜ s .0 ≤ places (textOf (now text) n) (patternOf (now word) m) ⌝ }
-    ensures { λ r. ⌜ Quiet Method.Skip (textOf (now (text .entry)) n) (patternOf (now (word .entry)) m) (s .0) budget (r .at .0) (r .steps) ⌝ }
-    ensures { λ r. ⌜ (0 < r .link → (r .at .0 < places (textOf (now (text .entry)) n) (patternOf (now (word .entry)) m)) × (r .steps < budget) × (r .link ≤ chained m)
-        × (r .link ≡ lastShown (patternOf (now (word .entry)) m) (bitsAt (now (text .entry)) (8 * lastByte (patternOf (now (word .entry)) m) (r .at .0)) 8) (8 * lastByte (patternOf (now (word .entry)) m) (r .at .0) + 1 - r .at .0))) ⌝ }
-{
-    let end = n - m + 1;
-    let stride = (m + 1) / 8 - 1;
-    let mut at = s.0;
-    if at % 8 != 1 {
-        return Halt {
-            at: Place(at),
-            steps: 0,
-            link: 0,
-        };
-    }
-    let mut b = (at + m) / 8 - 1;
-    let mut steps = 0u32;
-    while at < end && steps < budget {
-        let v = text[b as usize];
-        let link = cells[v as usize];
-        if link != 0 {
-            return Halt {
-                at: Place(at),
-                steps: steps,
-                link: link,
-            };
-        }
-        at = 8 * b + 1;
-        b += stride;
-        steps += 1;
-    }
-    Halt {
-        at: Place(cut(at, end)),
-        steps: steps,
-        link: 0,
-    }
-}
-
-// Steps as long as they find nothing: over empty chains by `pass`, and over a chain at none of whose places the pattern
-// stands.
-pub fn quiet(
-    text: &[u8],
-    n: u32,
-    word: &[u8],
-    m: u32,
-    h: Head,
-    cells: &[u64],
-    s: Place,
-    budget: u32,
-) -> Hop
-    requires { ⌜ Ready Method.Skip (textOf (now text) n) (patternOf (now word) m) (now cells) ⌝ }
-    requires { ⌜ HeadOf (patternOf (now word) m) (h .bits) (h .cut) ⌝ }
-    requires { ⌜ s .0 ≤ places (textOf (now text) n) (patternOf (now word) m) ⌝ }
-    ensures { λ r. ⌜ Quiet Method.Skip (textOf (now (text .entry)) n) (patternOf (now (word .entry)) m) (s .0) budget (r .at .0) (r .steps) ⌝ }
-{
-    let end = n - m + 1;
-    let mut at = s.0;
-    let mut steps = 0u32;
-    loop {
-        let halt = pass(text, n, word, m, cells, Place(at), budget - steps);
-        let there = halt.at;
-        at = there.0;
-        steps += halt.steps;
-        let link = halt.link;
-        if link == 0 {
-            return Hop {
-                at: Place(at),
-                steps: steps,
-            };
-        }
-        let b = (at + m) / 8 - 1;
-        if stands(text, n, word, m, h, cells, ByteNo(b as usize), link) {
-            return Hop {
-                at: Place(at),
-                steps: steps,
-            };
-        }
-        at = cut(8 * b + 1, end);
-        steps += 1;
-    }
 }
 
 // One step: the places of the chain from the mark on, rising, each compared.
@@ -280,7 +152,55 @@ pub fn step(
     }
 }
 
-// Many steps.
+// The step from a mark 8 a + 1, by the last byte b that all its places contain: the places of b's chain, from its head on,
+// each compared. The mark lies as many places before 8 b + 1 as indices are chained, and the place of a link j is 8 b + 1 - j.
+fn chain(
+    text: &[u8],
+    n: u32,
+    word: &[u8],
+    m: u32,
+    h: Head,
+    cells: &[u64],
+    b: ByteNo,
+    link: u64,
+    list: &mut [u32],
+    had: usize,
+) -> Found
+    requires { ⌜ Ready Method.Skip (textOf (now text) n) (patternOf (now word) m) (now cells) ⌝ }
+    requires { ⌜ HeadOf (patternOf (now word) m) (h .bits) (h .cut) ⌝ }
+    requires { ⌜ (chained m ≤ 8 * b .0) × (8 * b .0 + 8 ≤ n) × (had ≤ length (now list)) ⌝ }
+    requires { ⌜ link ≡ lastShown (patternOf (now word) m) (bitsAt (now text) (8 * b .0) 8) (chained m) ⌝ }
+    ensures { λ r. ⌜ Stepped Method.Skip (textOf (now (text .entry)) n) (patternOf (now (word .entry)) m) (8 * b .0 + 1 - chained m) (now (list .entry)) had (r .at .0) (r .hits) (r .full) (now (list .exit)) ⌝ }
+{
+    let byte = b.0;
+    let top = (8 * byte + 1) as u32;
+    let low = over(top, n - m + 1);
+    let mut next = link;
+    let mut written = had;
+    while (low as u64) < next {
+        let p = (top as u64 - next) as u32;
+        if compare::same(text, word, m, h, Place(p)) {
+            if list.len() <= written {
+                return Found {
+                    at: Place(p),
+                    hits: written,
+                    full: true,
+                };
+            }
+            list[written] = p;
+            written += 1;
+        }
+        next = cells[(255 + next) as usize];
+    }
+    Found {
+        at: Place(cut(top, n - m + 1)),
+        hits: written,
+        full: false,
+    }
+}
+
+// Many steps, each from a mark 8 a + 1: its byte is b, and that of the next mark, 8 b + 1, is b + (m + 1) / 8 - 1. The mark
+// may pass the number of places, and is cut at the end. From any other mark it makes no step: only a call's first mark is one.
 pub fn advance(
     text: &[u8],
     n: u32,
@@ -298,10 +218,54 @@ pub fn advance(
     requires { ⌜ (s .0 ≤ places (textOf (now text) n) (patternOf (now word) m)) × (had ≤ length (now list)) ⌝ }
     ensures { λ r. ⌜ Advanced Method.Skip (textOf (now (text .entry)) n) (patternOf (now (word .entry)) m) (s .0) budget (now (list .entry)) had (r .at .0) (r .steps) (r .hits) (r .full) (now (list .exit)) ⌝ }
 {
+    let end = n + 1 - m;
+    let stride = (m + 1) / 8 - 1;
+    let mut at = s.0;
+    if at % 8 != 1 {
+        return Advance {
+            at: s,
+            steps: 0,
+            hits: had,
+            full: false,
+        };
+    }
+    let mut b = (at + m) / 8 - 1;
+    let mut steps = 0u32;
+    let mut hits = had;
+    while at < end && steps < budget {
+        let link = cells[text[b as usize] as usize];
+        at = 8 * b + 1;
+        if link != 0 {
+            let found = chain(
+                text,
+                n,
+                word,
+                m,
+                h,
+                cells,
+                ByteNo(b as usize),
+                link,
+                list,
+                hits,
+            );
+            hits = found.hits;
+            if found.full {
+                let stop = found.at;
+                return Advance {
+                    at: stop,
+                    steps: steps + 1,
+                    hits: hits,
+                    full: found.full,
+                };
+            }
+        }
+        b += stride;
+        steps += 1;
+    }
     Advance {
-        at: s,
-        steps: 0,
-        hits: had,
+        at: Place(cut(at, end)),
+        steps: steps,
+        hits: hits,
         full: false,
     }
 }

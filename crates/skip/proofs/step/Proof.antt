@@ -14,7 +14,7 @@ use Rattle.rules.proofs.Occurrence.{places-some}
 use Rattle.matcher.proofs.Writing.{writing-none, writing-length}
 use Rattle.rules.proofs.Skip.{reaches-byte, contains-byte}
 use Rattle.skip.proofs.SkipChain.{byte-is, walk-start, walk-by, walk-found, walk-end}
-use Rattle.skip.proofs.SkipStep.{span-fits, link-inside, link-outside, compared, written-more, skip-full, skip-whole}
+use Rattle.skip.proofs.SkipStep.{span-fits, below-top, link-inside, link-outside, compared, written-more, skip-full, skip-whole}
 use Rattle.skip.proofs.step.Statement.{statement}
 use Rattle.skip.proofs.step.Tie as tie
 
@@ -29,9 +29,6 @@ abbrev μ-loop : tie.MeasureT-loop
 
 place-fits : (x n m k : ℕ) → x < 1 + n - m → n ≤ k → x ≤ k
 place-fits x n m k h l = omega arith
-
-below-top : (x j : ℕ) → 0 < j → j ≤ x → x - j < x
-below-top x j g l = omega arith
 
 from-mark : (p j x : ℕ) → j + p ≤ x → p ≤ x - j
 from-mark p j x h = omega arith
