@@ -109,7 +109,7 @@ pub fn step(
     ensures { λ r. ⌜ Stepped Method.Hash (textOf (now (text .entry)) n) (patternOf (now (word .entry)) m) (s .0) (now (list .entry)) had (r .at .0) (r .hits) (r .full) (now (list .exit)) ⌝ }
 {
     let next = Place(next_mark(text, n, word, m, cells, s));
-    if compare::same(text, word, m, h, s) {
+    if compare::stands(text, word, m, s) {
         if had < list.len() {
             list[had] = s.0;
             return Found {

@@ -132,7 +132,7 @@ pub fn step(
     let mut hits = had;
     while (low as u64) < j {
         let a = (top as u64 - j) as u32;
-        if compare::same(text, word, m, h, Place(a)) {
+        if compare::stands(text, word, m, Place(a)) {
             if list.len() <= hits {
                 return Found {
                     at: Place(a),

@@ -12,18 +12,18 @@ use Rattle.hash.proofs.step.Statement.{statement}
 use Rattle.hash.proofs.step.Tie as tie
 
 -- the comparison's answer, of the text with its bit count
-stands : (c : tie.After-same) (b : Bool) → c .same .result ≡ b
+stands-here : (c : tie.After-stands) (b : Bool) → c .stands .result ≡ b
     → let a = c .before .before .before .before .before .before .args in
     matches (textOf (now (a .text)) (a .n)) (patternOf (now (a .word)) (a .m)) (a .s .0) ≡ b
-stands c b e =
+stands-here c b e =
     let a = c .before .before .before .before .before .before .args in
-    sym (matches-any (now (a .text)) (a .n) (patternOf (now (a .word)) (a .m)) (a .s .0)) ∙ sym (c .same .ensures) ∙ e
+    sym (matches-any (now (a .text)) (a .n) (patternOf (now (a .word)) (a .m)) (a .s .0)) ∙ sym (c .stands .ensures) ∙ e
 
 next-mark-requires : tie.Need-next-mark-requires
 next-mark-requires c κs = search needs
 
-same-requires : tie.Need-same-requires
-same-requires c κs = search needs
+stands-requires : tie.Need-stands-requires
+stands-requires c κs = search needs
 
 mul-list : tie.Need-mul-list
 mul-list c = search needs
@@ -42,28 +42,28 @@ returns c =
     let s = c .before .before .before .before .before .before .before .before in
     let a = s .args in
     stepped-hit (textOf (now (a .text)) (a .n)) (patternOf (now (a .word)) (a .m)) (now (a .cells)) (s .pre .0) (a .s .0) (s .pre .1 .1 .0) (now (a .list)) (a .had)
-    _ (c .before .before .before .next-mark .ensures) (stands (c .before .before) _ (c .before .if1 .taken)) (c .if2 .taken)
+    _ (c .before .before .before .next-mark .ensures) (stands-here (c .before .before) _ (c .before .if1 .taken)) (c .if2 .taken)
 
 returns-2 : tie.Need-returns-2
 returns-2 c =
     let s = c .before .before .before .before .before .before .before .before in
     let a = s .args in
     stepped-cut (textOf (now (a .text)) (a .n)) (patternOf (now (a .word)) (a .m)) (now (a .cells)) (s .pre .0) (a .s .0) (s .pre .1 .1 .0) (now (a .list)) (a .had)
-    (stands (c .before .before) _ (c .before .if1 .taken)) (omega arith)
+    (stands-here (c .before .before) _ (c .before .if1 .taken)) (omega arith)
 
 returns-3 : tie.Need-returns-3
 returns-3 c =
     let s = c .before .before .before .before .before .before .before in
     let a = s .args in
     stepped-miss (textOf (now (a .text)) (a .n)) (patternOf (now (a .word)) (a .m)) (now (a .cells)) (s .pre .0) (a .s .0) (s .pre .1 .1 .0) (now (a .list)) (a .had)
-    _ (c .before .before .next-mark .ensures) (stands (c .before) _ (c .if1 .left)) (s .pre .1 .1 .1)
+    _ (c .before .before .next-mark .ensures) (stands-here (c .before) _ (c .if1 .left)) (s .pre .1 .1 .1)
 
 pub step-spec : {M : Type 1} → statement M
 step-spec =
     tie.close
     (tie.spec
     next-mark-requires
-    same-requires
+    stands-requires
     mul-list
     slice-write-list
     add-t15

@@ -19,13 +19,13 @@ use Rattle.skip.proofs.step.Statement.{statement}
 use Rattle.skip.proofs.step.Tie as tie
 
 abbrev Inv-loop : tie.InvT-loop
-Inv-loop text n word m h cells list₀ had at end b top low v j₀ hits₀ list j hits =
+Inv-loop text n word m cells list₀ had at end b top low v j₀ hits₀ list j hits =
     (j + at ≤ 8 * b + 1)
     × (j ≤ chained m → lastShown (patternOf word m) v j ≡ j)
     × Writing list₀ had (occurrences (textOf text n) (patternOf word m) at (8 * b + 1 - j)) list hits
 
 abbrev μ-loop : tie.MeasureT-loop
-μ-loop text n word m h cells list₀ had at end b top low v j₀ hits₀ list j hits = j
+μ-loop text n word m cells list₀ had at end b top low v j₀ hits₀ list j hits = j
 
 place-fits : (x n m k : ℕ) → x < 1 + n - m → n ≤ k → x ≤ k
 place-fits x n m k h l = omega arith
@@ -123,11 +123,11 @@ cast-a-2 c =
     let s = c .before .before .before .before .before .before .before .before .before in
     record { fits = omega (arith, place-fits _ (s .args .n) (s .args .m) (2 ^ 30) (inside c) (s .pre .0 .few-bits)) }
 
-same-requires : tie.Need-same-requires Inv-loop μ-loop
-same-requires c κs =
+stands-requires : tie.Need-stands-requires Inv-loop μ-loop
+stands-requires c κs =
     let s = c .before .before .before .before .before .before .before .before .before in
     let g = s .pre .0 .pattern in
-    ((g .some-bits, g .few-bits, place-fits _ (s .args .n) (s .args .m) (2 ^ 30) (inside c) (s .pre .0 .few-bits)), s .pre .1 .0)
+    (g .some-bits, g .few-bits, place-fits _ (s .args .n) (s .args .m) (2 ^ 30) (inside c) (s .pre .0 .few-bits))
 
 same-length : tie.Need-same-length Inv-loop μ-loop
 same-length c =
@@ -142,7 +142,7 @@ returns c =
     let w = patternOf (now (a .word)) (a .m) in
     let b = (a .s .0 + a .m) / 8 - 1 in
     let long : 15 ≤ a .m = ltb-false (a .m) 15 (s .pre .0 .pattern .fit) in
-    let found = sym (compared (now (a .text)) (a .n) w (8 * b + 1 - l .j) (inside (c .before .before .before))) ∙ sym (c .before .before .same .ensures) ∙ c .before .if1 .taken in
+    let found = sym (compared (now (a .text)) (a .n) w (8 * b + 1 - l .j) (inside (c .before .before .before))) ∙ sym (c .before .before .stands .ensures) ∙ c .before .if1 .taken in
     skip-full t w (a .s .0) (now (a .list)) (a .had) (l .list) (l .hits) (8 * b + 1 - l .j) (l .inv .2) long (s .pre .1 .1 .1) (from-mark (a .s .0) (l .j) (8 * b + 1) (l .inv .0))
     (below-top (8 * b + 1) (l .j) (omega arith) (omega arith)) found (c .if2 .taken)
 
@@ -177,7 +177,7 @@ loop-again c =
     let w = patternOf (now (a .word)) (a .m) in
     let b = (a .s .0 + a .m) / 8 - 1 in
     let long : 15 ≤ a .m = ltb-false (a .m) 15 (s .pre .0 .pattern .fit) in
-    let test = sym (compared (now (a .text)) (a .n) w (8 * b + 1 - l .j) (inside (c .before .before .before))) ∙ sym (c .before .before .same .ensures) in
+    let test = sym (compared (now (a .text)) (a .n) w (8 * b + 1 - l .j) (inside (c .before .before .before))) ∙ sym (c .before .before .stands .ensures) in
     let e = c .next-link .ensures in
     let byte = byte-is (now (a .text)) b (c .before .before .before .before .before .before .shared-slice-known4 .given b .fits) in
     let link = rw byte at (e .1) in
@@ -236,7 +236,7 @@ step-spec =
     cast-a
     sub-a
     cast-a-2
-    same-requires
+    stands-requires
     same-length
     returns
     mul-list
