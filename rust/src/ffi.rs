@@ -1,0 +1,191 @@
+//! The library's C calls on slices: numbers in, a number out, nothing interpreted. The rest of the crate is over
+//! these; they are public so that tests can hand over any number and any length.
+//!
+//! Each call returns 0 and fills the front of `answer`, or returns the number of a refusal and changes nothing. Two
+//! numbers are not refusals of the rules: [`UNKNOWN_METHOD`] and [`FEW_ANSWER_CELLS`].
+#![allow(unsafe_code)]
+// The calls' parameters are fixed by the library.
+#![allow(clippy::too_many_arguments)]
+
+/// The method's number is above 3.
+pub const UNKNOWN_METHOD: u32 = 100;
+/// The answer has fewer cells than the call fills.
+pub const FEW_ANSWER_CELLS: u32 = 101;
+
+// The library takes a slice as a pointer and a count of elements. Its functions ask nothing of the numbers, and of
+// each slice what a Rust reference gives: a pointer that is not null and is aligned, also for no elements; that many
+// initialised elements; and for a `&mut` slice no other access to them during the call. Nothing checks these
+// declarations against the library: tests/boundary.rs tests them.
+mod raw {
+    extern "C" {
+        pub fn mitongory_search(
+            text: *const u8,
+            text_len: usize,
+            n: u64,
+            word: *const u8,
+            word_len: usize,
+            m: u64,
+            method: u32,
+            mark: u32,
+            budget: u32,
+            list: *mut u32,
+            list_len: usize,
+            scratch: *mut u64,
+            scratch_len: usize,
+            answer: *mut u64,
+            answer_len: usize,
+        ) -> u32;
+        pub fn mitongory_hash_value(
+            word: *const u8,
+            word_len: usize,
+            m: u64,
+            value: u8,
+            answer: *mut u64,
+            answer_len: usize,
+        ) -> u32;
+        pub fn mitongory_eight_bits(
+            bytes: *const u8,
+            bytes_len: usize,
+            n: u64,
+            place: u32,
+            answer: *mut u64,
+            answer_len: usize,
+        ) -> u32;
+        pub fn mitongory_list_size(list: *const u32, list_len: usize, answer: *mut u64, answer_len: usize) -> u32;
+        pub fn mitongory_list_write(
+            list: *const u32,
+            list_len: usize,
+            target: *mut u8,
+            target_len: usize,
+            answer: *mut u64,
+            answer_len: usize,
+        ) -> u32;
+        pub fn mitongory_list_read(
+            file: *const u8,
+            file_len: usize,
+            cells: *mut u32,
+            cells_len: usize,
+            answer: *mut u64,
+            answer_len: usize,
+        ) -> u32;
+    }
+}
+
+/// A search call. Method 0 is plain, 1 hash, 2 skip, 3 wide; the answer's four cells are steps, hits, mark and how the
+/// call stopped (0 done, 1 full, 2 spent).
+///
+/// ```
+/// let (mut list, mut scratch, mut answer) = ([0; 4], [0; 4224], [0; 4]);
+/// let said = mitongory::ffi::search(&[0xf8], 5, &[0xe0], 3, 0, 0, u32::MAX, &mut list, &mut scratch, &mut answer);
+/// assert_eq!((said, answer, list), (0, [3, 3, 3, 0], [0, 1, 2, 0]));
+/// ```
+pub fn search(
+    text: &[u8],
+    n: u64,
+    word: &[u8],
+    m: u64,
+    method: u32,
+    mark: u32,
+    budget: u32,
+    list: &mut [u32],
+    scratch: &mut [u64],
+    answer: &mut [u64],
+) -> u32 {
+    // SAFETY: each pointer and length come from one live slice, and the `&mut` slices overlap nothing.
+    unsafe {
+        raw::mitongory_search(
+            text.as_ptr(),
+            text.len(),
+            n,
+            word.as_ptr(),
+            word.len(),
+            m,
+            method,
+            mark,
+            budget,
+            list.as_mut_ptr(),
+            list.len(),
+            scratch.as_mut_ptr(),
+            scratch.len(),
+            answer.as_mut_ptr(),
+            answer.len(),
+        )
+    }
+}
+
+/// H of a value for a word, in the answer's first cell.
+///
+/// ```
+/// let mut answer = [0];
+/// let said = mitongory::ffi::hash_value(&[0xcb, 0x2c, 0xb0], 21, 0b0110_0101, &mut answer);
+/// assert_eq!((said, answer), (0, [2]));
+/// ```
+pub fn hash_value(word: &[u8], m: u64, value: u8, answer: &mut [u64]) -> u32 {
+    // SAFETY: each pointer and length come from one live slice, and the `&mut` slice overlaps nothing.
+    unsafe { raw::mitongory_hash_value(word.as_ptr(), word.len(), m, value, answer.as_mut_ptr(), answer.len()) }
+}
+
+/// Eight bits from a bit number on, in the answer's first cell.
+///
+/// ```
+/// let mut answer = [0];
+/// let said = mitongory::ffi::eight_bits(&[0xab, 0xcd], 16, 4, &mut answer);
+/// assert_eq!((said, answer), (0, [0xbc]));
+/// ```
+pub fn eight_bits(bytes: &[u8], n: u64, place: u32, answer: &mut [u64]) -> u32 {
+    // SAFETY: each pointer and length come from one live slice, and the `&mut` slice overlaps nothing.
+    unsafe { raw::mitongory_eight_bits(bytes.as_ptr(), bytes.len(), n, place, answer.as_mut_ptr(), answer.len()) }
+}
+
+/// The byte count of a list's file, in the answer's first cell.
+///
+/// ```
+/// let mut answer = [0];
+/// assert_eq!((mitongory::ffi::list_size(&[300], &mut answer), answer), (0, [3]));
+/// ```
+pub fn list_size(list: &[u32], answer: &mut [u64]) -> u32 {
+    // SAFETY: each pointer and length come from one live slice, and the `&mut` slice overlaps nothing.
+    unsafe { raw::mitongory_list_size(list.as_ptr(), list.len(), answer.as_mut_ptr(), answer.len()) }
+}
+
+/// Writes a list's file to the front of the target; the byte count is in the answer's first cell.
+///
+/// ```
+/// let (mut target, mut answer) = ([0; 3], [0]);
+/// let said = mitongory::ffi::list_write(&[300], &mut target, &mut answer);
+/// assert_eq!((said, target, answer), (0, [0x01, 0xac, 0x02], [3]));
+/// ```
+pub fn list_write(list: &[u32], target: &mut [u8], answer: &mut [u64]) -> u32 {
+    // SAFETY: each pointer and length come from one live slice, and the `&mut` slices overlap nothing.
+    unsafe {
+        raw::mitongory_list_write(
+            list.as_ptr(),
+            list.len(),
+            target.as_mut_ptr(),
+            target.len(),
+            answer.as_mut_ptr(),
+            answer.len(),
+        )
+    }
+}
+
+/// Reads a file's list to the front of the cells; the list's count is in the answer's first cell.
+///
+/// ```
+/// let (mut cells, mut answer) = ([0; 3], [0]);
+/// let said = mitongory::ffi::list_read(&[0x01, 0xac, 0x02], &mut cells, &mut answer);
+/// assert_eq!((said, cells, answer), (0, [300, 0, 0], [1]));
+/// ```
+pub fn list_read(file: &[u8], cells: &mut [u32], answer: &mut [u64]) -> u32 {
+    // SAFETY: each pointer and length come from one live slice, and the `&mut` slices overlap nothing.
+    unsafe {
+        raw::mitongory_list_read(
+            file.as_ptr(),
+            file.len(),
+            cells.as_mut_ptr(),
+            cells.len(),
+            answer.as_mut_ptr(),
+            answer.len(),
+        )
+    }
+}

@@ -1,0 +1,82 @@
+//! The file for a list of positions: its count, the first position, then each distance less 1, as varints.
+use crate::ffi;
+use crate::refusal::Refusal;
+
+/// No file holds more positions than there are numbers below 2^30.
+const MOST: usize = 1 << 30;
+
+/// A library call's number and first answer cell as a count.
+fn count(said: u32, answer: [u64; 1]) -> Result<usize, Refusal> {
+    Refusal::check(said)?;
+    Ok(usize::try_from(answer[0]).expect("a count of bytes or cells in memory"))
+}
+
+/// How many bytes a list's file takes; or refusal 8.
+///
+/// ```
+/// use mitongory::{positions, Refusal};
+/// assert_eq!(positions::encoded_size(&[0, 6, 12]), Ok(4));
+/// assert_eq!(positions::encoded_size(&[6, 6]), Err(Refusal::NotRising));
+/// ```
+pub fn encoded_size(list: &[u32]) -> Result<usize, Refusal> {
+    let mut answer = [0];
+    count(ffi::list_size(list, &mut answer), answer)
+}
+
+/// Writes a list's file to the front of the target and gives its byte count; or refusal 8 or 9. The bytes behind it
+/// stay as they were.
+///
+/// ```
+/// let mut target = [0xff; 5];
+/// assert_eq!(mitongory::positions::encode_into(&[0, 6, 12], &mut target), Ok(4));
+/// assert_eq!(target, [3, 0, 5, 5, 0xff]);
+/// ```
+pub fn encode_into(list: &[u32], target: &mut [u8]) -> Result<usize, Refusal> {
+    let mut answer = [0];
+    count(ffi::list_write(list, target, &mut answer), answer)
+}
+
+/// A list's file; or refusal 8.
+///
+/// ```
+/// assert_eq!(mitongory::positions::encode(&[300]), Ok(vec![0x01, 0xac, 0x02]));
+/// ```
+pub fn encode(list: &[u32]) -> Result<Vec<u8>, Refusal> {
+    let mut file = vec![0; encoded_size(list)?];
+    encode_into(list, &mut file)?;
+    Ok(file)
+}
+
+/// Reads a file's list to the front of the cells and gives its count; or a refusal from 10 to 14. The cells behind it
+/// stay as they were.
+///
+/// ```
+/// use mitongory::{positions, Refusal};
+/// let mut cells = [7; 4];
+/// assert_eq!(positions::decode_into(&[3, 0, 5, 5], &mut cells), Ok(3));
+/// assert_eq!(cells, [0, 6, 12, 7]);
+/// assert_eq!(positions::decode_into(&[3, 0, 5, 5], &mut cells[..2]), Err(Refusal::TooFewCells));
+/// ```
+pub fn decode_into(file: &[u8], cells: &mut [u32]) -> Result<usize, Refusal> {
+    let mut answer = [0];
+    count(ffi::list_read(file, cells, &mut answer), answer)
+}
+
+/// A file's list; or a refusal from 10 to 14.
+///
+/// The count in front of a file may claim up to 2^30 positions, so it is not trusted: a cell is lent for each byte
+/// behind the first, which is enough, since count and positions take a byte or more each. Refusal 14 therefore means
+/// that the count is larger than the file's bytes can hold.
+///
+/// ```
+/// use mitongory::{positions, Refusal};
+/// assert_eq!(positions::decode(&[3, 0, 5, 5]), Ok(vec![0, 6, 12]));
+/// assert_eq!(positions::decode(&[0xff, 0xff, 0xff, 0xff, 0x03, 0]), Err(Refusal::TooFewCells));
+/// ```
+pub fn decode(file: &[u8]) -> Result<Vec<u32>, Refusal> {
+    let mut cells = vec![0; file.len().saturating_sub(1).min(MOST)];
+    let count = decode_into(file, &mut cells)?;
+    cells.truncate(count);
+    cells.shrink_to_fit();
+    Ok(cells)
+}

@@ -1,0 +1,158 @@
+//! The lengths and the types at the boundary: nothing checks the declarations in `ffi` against the library, so each
+//! parameter is handed over with values that a narrower type or another order would change.
+use mitongory::{ffi, SCRATCH_CELLS};
+
+/// A search with a fresh scratch: the number and the answer.
+fn search(text: &[u8], n: u64, word: &[u8], m: u64, numbers: [u32; 3], list: &mut [u32]) -> (u32, [u64; 4]) {
+    let ([method, mark, budget], mut answer) = (numbers, [9; 4]);
+    let mut scratch = vec![u64::MAX; SCRATCH_CELLS];
+    let said = ffi::search(text, n, word, m, method, mark, budget, list, &mut scratch, &mut answer);
+    (said, answer)
+}
+
+const ALL: u32 = u32::MAX;
+const UNCHANGED: [u64; 4] = [9; 4];
+
+/// Every bit of the method's, mark's and budget's 32 bits counts.
+#[test]
+fn numbers_of_32_bits() {
+    let text = vec![0; 1 << 15];
+    let n = 1 << 18;
+    for bit in 2..32 {
+        assert_eq!(search(&text, n, &[0x80], 1, [1 << bit, 0, 1], &mut []), (100, UNCHANGED));
+        assert_eq!(search(&text, n, &[0x80], 1, [1 << bit | 3, 0, 1], &mut []), (100, UNCHANGED));
+    }
+    for bit in 0..32 {
+        let (mark, budget) = (1u32 << bit, 1u32 << bit);
+        let want = if u64::from(mark) <= n {
+            (0, [0, 0, mark.into(), 2 * u64::from(u64::from(mark) < n)])
+        } else {
+            (6, UNCHANGED)
+        };
+        assert_eq!(search(&text, n, &[0x80], 1, [0, mark, 0], &mut []), want);
+        let made = n.min(budget.into());
+        assert_eq!(search(&text, n, &[0x80], 1, [0, 0, budget], &mut []).1, [made, 0, made, 2 * u64::from(made < n)]);
+    }
+    assert_eq!(search(&text, n, &[0x80], 1, [0, ALL, ALL], &mut []), (6, UNCHANGED));
+    assert_eq!(search(&text, n, &[0x80], 1, [0, n as u32, ALL], &mut []), (0, [0, 0, n, 0]));
+}
+
+/// Every bit of the 64 bits of n and m counts.
+#[test]
+fn counts_of_64_bits() {
+    let bytes = [0xff; 300];
+    for bit in 31..64 {
+        let more = 1u64 << bit;
+        assert_eq!(search(&bytes, more | 16, &bytes, 8, [0, 0, ALL], &mut []), (1, UNCHANGED));
+        assert_eq!(ffi::eight_bits(&bytes, more | 16, 0, &mut [9]), 1);
+    }
+    for bit in 12..64 {
+        let more = 1u64 << bit;
+        assert_eq!(search(&bytes, 16, &bytes, more | 8, [0, 0, ALL], &mut []), (3, UNCHANGED));
+        assert_eq!(ffi::hash_value(&bytes, more | 8, 0, &mut [9]), 3);
+    }
+    assert_eq!(search(&bytes, u64::MAX, &bytes, u64::MAX, [0, ALL, ALL], &mut []).0, 1);
+    assert_eq!(search(&bytes, 16, &bytes, u64::MAX, [3, ALL, ALL], &mut []).0, 3);
+    // m = 264 is not 8, and n = 2,400 is not below 2^11.
+    assert_eq!(search(&bytes, 2_400, &bytes, 264, [1, 0, ALL], &mut [0; 3_000]), (0, [2_137, 2_137, 2_137, 0]));
+}
+
+/// Every length from none on, also for buffers that are not used.
+#[test]
+fn lengths() {
+    let bytes = [0xff; 40];
+    for bits in 0..=300u64 {
+        for len in 0..=38 {
+            let short = (len as u64) < bits.div_ceil(8);
+            let want = if short { 2 } else { 3 };
+            assert_eq!(search(&bytes[..len], bits, &[], 0, [0, 0, 0], &mut []).0, want);
+            let want = if bits == 0 { 3 } else { 4 * u32::from(short) };
+            assert_eq!(search(&[], 0, &bytes[..len], bits, [0, 0, 0], &mut []).0, want);
+        }
+    }
+    for cells in 0..=70 {
+        let mut list = vec![7; cells];
+        let (said, answer) = search(&bytes, 64, &[0x80], 1, [3, 0, ALL], &mut list);
+        let hits = cells.min(64) as u64;
+        assert_eq!((said, answer), (0, [1, hits, hits, u64::from(cells < 64)]));
+        assert!(list.iter().enumerate().all(|(i, &cell)| cell == if i < 64 { i as u32 } else { 7 }));
+    }
+    for answer in 0..6 {
+        let want = if answer < 1 { 101 } else { 0 };
+        let mut cells = vec![9; answer];
+        assert_eq!(ffi::list_size(&[], &mut cells), want);
+        assert_eq!(ffi::list_write(&[], &mut [0], &mut cells), want);
+        assert_eq!(ffi::list_read(&[0], &mut [], &mut cells), want);
+        assert_eq!(ffi::hash_value(&[0], 8, 0, &mut cells), want);
+        assert_eq!(ffi::eight_bits(&[0], 8, 0, &mut cells), want);
+        let want = if answer < 4 { 101 } else { 0 };
+        assert_eq!(ffi::search(&[], 0, &[0], 1, 0, 0, 0, &mut [], &mut [0; 4_224], &mut cells), want);
+    }
+}
+
+/// Empty slices everywhere.
+#[test]
+fn nothing_lent() {
+    assert_eq!(ffi::search(&[], 0, &[], 0, 0, 0, 0, &mut [], &mut [], &mut []), 101);
+    assert_eq!(ffi::search(&[], 0, &[], 0, 4, 0, 0, &mut [], &mut [], &mut []), 100);
+    assert_eq!(ffi::search(&[], 0, &[], 0, 0, 0, 0, &mut [], &mut [], &mut [0; 4]), 3);
+    assert_eq!(ffi::search(&[], 0, &[0], 1, 0, 0, 0, &mut [], &mut [], &mut [0; 4]), 7);
+    assert_eq!(ffi::hash_value(&[], 0, 0, &mut []), 101);
+    assert_eq!(ffi::hash_value(&[], 0, 0, &mut [0]), 3);
+    assert_eq!(ffi::eight_bits(&[], 0, 0, &mut []), 101);
+    assert_eq!(ffi::eight_bits(&[], 0, 0, &mut [0]), 6);
+    assert_eq!(ffi::list_size(&[], &mut []), 101);
+    assert_eq!(ffi::list_write(&[], &mut [], &mut []), 101);
+    assert_eq!(ffi::list_write(&[], &mut [], &mut [0]), 9);
+    assert_eq!(ffi::list_read(&[], &mut [], &mut []), 101);
+    assert_eq!(ffi::list_read(&[], &mut [], &mut [0]), 10);
+}
+
+/// Slices of bytes at every address modulo 8, since they need no alignment.
+#[test]
+fn odd_addresses() {
+    let bytes: Vec<u8> = (0..64).map(|i: u8| i.wrapping_mul(37)).collect();
+    let copy = |from: usize| bytes[from..from + 24].to_vec();
+    for (from, method) in (0..8).flat_map(|from| (0..4).map(move |method| (from, method))) {
+        let mut list = [0; 8];
+        let (text, word) = (&bytes[from..from + 24], &bytes[from + 5..from + 8]);
+        let at_odd = (search(text, 190, word, 20, [method, 0, ALL], &mut list), list);
+        let (text, word) = (copy(from), copy(from)[5..8].to_vec());
+        assert_eq!(at_odd, (search(&text, 190, &word, 20, [method, 0, ALL], &mut list), list));
+        assert_eq!((at_odd.0 .1[1], list[0]), (1, 40));
+    }
+}
+
+/// Lengths above 2^32 are not cut down to 32 bits. The pages are never touched.
+#[test]
+fn lengths_of_64_bits() {
+    let mut long = vec![0u8; (1 << 32) + 1];
+    assert_eq!(search(&long, 9, &[0x80], 1, [0, 0, ALL], &mut []), (0, [9, 0, 9, 0]));
+    assert_eq!(search(&[0], 8, &long, 9, [0, 0, ALL], &mut []), (0, [0, 0, 0, 0]));
+    assert_eq!(ffi::eight_bits(&long, 9, 1, &mut [0]), 0);
+    assert_eq!(ffi::hash_value(&long, 9, 1, &mut [0]), 0);
+    let mut answer = [0];
+    assert_eq!((ffi::list_write(&[300], &mut long, &mut answer), answer), (0, [3]));
+    assert_eq!(long[..4], [1, 0xac, 2, 0]);
+    assert_eq!(ffi::list_read(&long, &mut [0], &mut answer), 13);
+}
+
+/// The largest recording: 2^30 bits, with the word at its last place only.
+#[test]
+fn largest_recording() {
+    let mut text = vec![0; 1 << 27];
+    text[(1 << 27) - 256..].fill(0xff);
+    let (n, m) = (1 << 30, 2_048);
+    for method in 0..4 {
+        let mut list = [7; 2];
+        let (said, [_, hits, mark, stop]) = search(&text, n, &[0xff; 256], m, [method, 0, ALL], &mut list);
+        assert_eq!((said, hits, mark, stop, list), (0, 1, n - m + 1, 0, [(n - m) as u32, 7]));
+        let from = (n - m) as u32;
+        assert_eq!(search(&text, n, &[0xff; 256], m, [method, from, ALL], &mut []).1, [1, 0, n - m, 1]);
+        assert_eq!(search(&text, n, &[0xff; 256], m, [method, from + 2, ALL], &mut []).0, 6);
+    }
+    assert_eq!(search(&text, n + 1, &[0xff; 256], m, [0, 0, ALL], &mut []).0, 1);
+    let mut answer = [0];
+    assert_eq!((ffi::eight_bits(&text, n, (1 << 30) - 8, &mut answer), answer), (0, [0xff]));
+    assert_eq!(ffi::eight_bits(&text, n, (1 << 30) - 7, &mut answer), 6);
+}

@@ -1,0 +1,13 @@
+//! The crate and the library behind it, held to the rules read bit by bit (`rules`) and to a codec written from the
+//! file's rules (`codec`). Every draw comes from one seed, which is printed; MITONGORY_SEED sets another.
+mod boundary;
+mod buffers;
+mod codec;
+mod files;
+mod hits;
+mod papers;
+mod random;
+mod refusals;
+mod rules;
+mod searches;
+mod values;

@@ -1,0 +1,82 @@
+//! The course's papers.
+use crate::rules::{pack, parse};
+use mitongory::{positions, search, Mark, Method, Recording, Refusal, Scratch, Stop, Word};
+
+const R1: &str = "011001001000100110100101000101001001";
+const V1: &str = "0100110100";
+const R2: &str = "110010110010110010110010110010110";
+const V2: &str = "110010110010110010110";
+
+/// Steps, hits, the last mark and how it stopped, of one call from 0 with all the budget.
+fn found(recording: &str, word: &str, method: Method, cells: usize) -> Result<(u32, Vec<u32>, u32, Stop), Refusal> {
+    let (t, w, mut list) = (pack(&parse(recording)), pack(&parse(word)), vec![0; cells]);
+    let recording = Recording::new(&t, recording.len() as u64)?;
+    let word = Word::new(&w, word.len() as u64)?;
+    let answer = search(recording, word, method, Mark::START, u32::MAX, &mut list, &mut Scratch::new())?;
+    list.truncate(answer.hits);
+    Ok((answer.steps, list, answer.mark.place(), answer.stop))
+}
+
+/// The marks of calls with a budget of one step.
+fn marks(recording: &str, word: &str, method: Method) -> Vec<u32> {
+    let (t, w) = (pack(&parse(recording)), pack(&parse(word)));
+    let recording = Recording::new(&t, recording.len() as u64).unwrap();
+    let word = Word::new(&w, word.len() as u64).unwrap();
+    let (mut marks, mut scratch) = (vec![0], Scratch::new());
+    loop {
+        let mark = Mark::at(*marks.last().unwrap());
+        let answer = search(recording, word, method, mark, 1, &mut [0; 64], &mut scratch).unwrap();
+        if answer.steps > 0 {
+            marks.push(answer.mark.place());
+        }
+        if answer.stop == Stop::Done {
+            return marks;
+        }
+    }
+}
+
+#[test]
+fn first_paper() {
+    assert_eq!(found(R1, V1, Method::Plain, 64), Ok((27, vec![11], 27, Stop::Done)));
+    assert_eq!(found(R1, V1, Method::Hash, 64), Ok((5, vec![11], 27, Stop::Done)));
+    assert_eq!(found(R1, V1, Method::Skip, 64), Err(Refusal::WordTooShort));
+    assert_eq!(found(R1, V1, Method::Wide, 64), Ok((1, vec![11], 27, Stop::Done)));
+    assert_eq!(marks(R1, V1, Method::Hash), [0, 7, 11, 17, 26, 27]);
+}
+
+#[test]
+fn second_paper() {
+    for method in Method::ALL {
+        assert_eq!(found(R2, V2, method, 64).unwrap().1, [0, 6, 12]);
+    }
+    assert_eq!(marks(R2, V2, Method::Skip), [0, 9, 13]);
+    for (method, steps) in [(Method::Plain, 7), (Method::Hash, 2), (Method::Wide, 1)] {
+        assert_eq!(found(R2, V2, method, 1), Ok((steps, vec![0], 6, Stop::Full(6))));
+    }
+}
+
+#[test]
+fn hash_values() {
+    let word = pack(&parse(V2));
+    let word = Word::new(&word, 21).unwrap();
+    let rows = [(0b0110_0101, 2), (0b1100_1011, 1), (0b1001_0110, 0), (0b1111_1111, 19), (0b0000_0000, 21)];
+    for (value, want) in rows {
+        assert_eq!(word.hash_value(value), Ok(want));
+    }
+}
+
+#[test]
+fn short_papers() {
+    assert_eq!(found("", "1", Method::Plain, 4), Ok((0, vec![], 0, Stop::Done)));
+    assert_eq!(found("11111", "111", Method::Plain, 4).unwrap().1, [0, 1, 2]);
+    assert_eq!(found("11111", "111", Method::Wide, 3), Ok((1, vec![0, 1, 2], 3, Stop::Done)));
+    assert_eq!(marks(&"0".repeat(200), "1", Method::Wide), [0, 65, 130, 195, 200]);
+}
+
+#[test]
+fn list_files() {
+    for (list, file) in [(vec![0, 6, 12], vec![3, 0, 5, 5]), (vec![300], vec![1, 0xac, 2]), (vec![], vec![0])] {
+        assert_eq!(positions::encode(&list), Ok(file.clone()));
+        assert_eq!(positions::decode(&file), Ok(list));
+    }
+}

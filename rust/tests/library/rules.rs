@@ -1,0 +1,144 @@
+//! The search rules, bit by bit and as they are written: nothing here is made for speed or shares code with the crate.
+
+/// The bits of a packed run, in order.
+pub fn bits(bytes: &[u8], count: usize) -> Vec<bool> {
+    (0..count).map(|p| bytes[p / 8] & (1 << (7 - p % 8)) != 0).collect()
+}
+
+/// Bits as bytes, with zeros behind them.
+pub fn pack(bits: &[bool]) -> Vec<u8> {
+    let mut bytes = vec![0; bits.len().div_ceil(8)];
+    for (p, _) in bits.iter().enumerate().filter(|(_, &bit)| bit) {
+        bytes[p / 8] |= 1 << (7 - p % 8);
+    }
+    bytes
+}
+
+/// The bits that characters 0 and 1 stand for.
+pub fn parse(text: &str) -> Vec<bool> {
+    text.chars().map(|c| c == '1').collect()
+}
+
+/// E, the number of places.
+pub fn places(n: usize, m: usize) -> usize {
+    if m <= n {
+        n - m + 1
+    } else {
+        0
+    }
+}
+
+/// A text and a word.
+pub struct Pair {
+    pub t: Vec<bool>,
+    pub w: Vec<bool>,
+}
+
+pub const PLAIN: u32 = 0;
+pub const HASH: u32 = 1;
+pub const SKIP: u32 = 2;
+pub const WIDE: u32 = 3;
+
+/// The fewest bits that a method takes.
+pub fn shortest(method: u32) -> usize {
+    match method {
+        HASH => 8,
+        SKIP => 15,
+        _ => 1,
+    }
+}
+
+/// The least d from `from` on at which the word agrees with eight bits that end its window.
+pub fn least_move(w: &[bool], eight: &[bool], from: usize) -> usize {
+    let m = w.len() as isize;
+    let meets = |d: usize| {
+        (0..8).all(|j: isize| {
+            let i = m - 8 - d as isize + j;
+            i < 0 || w[i as usize] == eight[j as usize]
+        })
+    };
+    (from..=w.len()).find(|&d| meets(d)).expect("d = m meets it: no index is left")
+}
+
+/// What a call answers.
+#[derive(Debug, PartialEq)]
+pub struct Outcome {
+    pub steps: u64,
+    pub written: Vec<u32>,
+    pub mark: u64,
+    /// 0 done, 1 full, 2 spent.
+    pub stop: u64,
+}
+
+impl Outcome {
+    pub fn cells(&self) -> [u64; 4] {
+        [self.steps, self.written.len() as u64, self.mark, self.stop]
+    }
+}
+
+impl Pair {
+    pub fn places(&self) -> usize {
+        places(self.t.len(), self.w.len())
+    }
+
+    /// The word stands at place s.
+    pub fn hit(&self, s: usize) -> bool {
+        s < self.places() && (0..self.w.len()).all(|j| self.t[s + j] == self.w[j])
+    }
+
+    pub fn hits(&self) -> Vec<u32> {
+        (0..self.places()).filter(|&s| self.hit(s)).map(|s| s as u32).collect()
+    }
+
+    /// One step from s < E: the places found, and the next mark.
+    fn step(&self, method: u32, s: usize) -> (Vec<usize>, usize) {
+        let (t, w, n, m, end) = (&self.t, &self.w, self.t.len(), self.w.len(), self.places());
+        let (found, next) = match method {
+            PLAIN => (vec![s], s + 1),
+            HASH => {
+                let eight = &t[s + m - 8..s + m];
+                match least_move(w, eight, 0) {
+                    0 => (vec![s], s + least_move(w, eight, 1)),
+                    d => (vec![], s + d),
+                }
+            }
+            SKIP => {
+                let b = (s + m) / 8 - 1;
+                let shows = |a: &usize| (0..8).all(|j| w[8 * b - a + j] == t[8 * b + j]);
+                ((s..=8 * b).filter(|&a| a < end).filter(shows).collect(), 8 * b + 1)
+            }
+            _ => {
+                let stands = |i: &usize| (0..m).all(|k| s + i + k >= n || t[s + i + k] == w[k]);
+                let window = 63 + m;
+                let next = match t.get(s + window) {
+                    None => end,
+                    Some(c) => match (0..m).rev().find(|&k| w[k] == *c) {
+                        Some(k) => s + window - k,
+                        None => s + window + 1,
+                    },
+                };
+                let flags: Vec<usize> = (0..64).filter(|i| s + i < end).filter(stands).map(|i| s + i).collect();
+                return (flags, next.min(end));
+            }
+        };
+        (found.into_iter().filter(|&a| self.hit(a)).collect(), next.min(end))
+    }
+
+    /// The call's loop.
+    pub fn run(&self, method: u32, mark: usize, budget: usize, cells: usize) -> Outcome {
+        let (mut mark, mut steps, mut written) = (mark, 0, Vec::new());
+        while mark < self.places() && steps < budget {
+            let (found, next) = self.step(method, mark);
+            steps += 1;
+            for a in found {
+                if written.len() == cells {
+                    return Outcome { steps: steps as u64, written, mark: a as u64, stop: 1 };
+                }
+                written.push(a as u32);
+            }
+            mark = next;
+        }
+        let stop = if mark == self.places() { 0 } else { 2 };
+        Outcome { steps: steps as u64, written, mark: mark as u64, stop }
+    }
+}

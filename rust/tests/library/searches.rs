@@ -1,0 +1,303 @@
+//! Search calls against the rules: every answer, list, scratch and refusal.
+use crate::buffers::Lent;
+use crate::random::{Draw, Random};
+use crate::rules::{bits, pack, shortest, Pair, PLAIN, WIDE};
+use mitongory::{ffi, search, Mark, Method, Recording, Scratch, Stop, Word, SCRATCH_CELLS};
+
+/// The buffers of many calls, and how many calls there were.
+struct Caller {
+    list: Lent<u32>,
+    scratch: Lent<u64>,
+    answer: Lent<u64>,
+    calls: usize,
+}
+
+/// What is handed over beside text and word, and the lengths of the lent buffers.
+#[derive(Clone, Copy, Debug)]
+struct Request {
+    method: u32,
+    mark: u32,
+    budget: u32,
+    cells: usize,
+    scratch: usize,
+    answer: usize,
+}
+
+impl Caller {
+    fn new(random: &Random, cells: usize) -> Caller {
+        Caller {
+            list: Lent::new(random, cells),
+            scratch: Lent::new(random, SCRATCH_CELLS + 80),
+            answer: Lent::new(random, 8),
+            calls: 0,
+        }
+    }
+
+    /// Other content than the last calls left.
+    fn redraw(&mut self, random: &Random) {
+        self.list.redraw(random);
+        self.scratch.redraw(random);
+        self.answer.redraw(random);
+    }
+
+    /// One raw call.
+    fn call(&mut self, text: &[u8], n: u64, word: &[u8], m: u64, r: Request) -> u32 {
+        self.calls += 1;
+        ffi::search(
+            text,
+            n,
+            word,
+            m,
+            r.method,
+            r.mark,
+            r.budget,
+            self.list.lend(r.cells),
+            self.scratch.lend(r.scratch),
+            self.answer.lend(r.answer),
+        )
+    }
+
+    /// One call on text and word as they are, held to the rules; `pair` has the same bits.
+    fn check(&mut self, text: &[u8], word: &[u8], pair: &Pair, r: Request) {
+        let (n, m) = (pair.t.len(), pair.w.len());
+        let want = pair.run(r.method, r.mark as usize, r.budget as usize, r.cells);
+        let said = self.call(text, n as u64, word, m as u64, r);
+        let right = said == 0
+            && self.answer.begins_with(&want.cells())
+            && self.list.begins_with(&want.written)
+            && self.scratch.unchanged_but(SCRATCH_CELLS);
+        assert!(right, "n {n}, m {m}, {r:?}: said {said}, text {text:x?}, word {word:x?}, should be {want:?}");
+    }
+
+    /// A call that must be refused with a number and change nothing.
+    fn check_refused(&mut self, text: &[u8], n: u64, word: &[u8], m: u64, r: Request, want: u32) {
+        let said = self.call(text, n, word, m, r);
+        assert_eq!(said, want, "{} bytes, n {n}, {} bytes, m {m}, {r:?}", text.len(), word.len());
+        assert!(self.list.unchanged() && self.scratch.unchanged() && self.answer.unchanged(), "changed by {want}");
+    }
+}
+
+/// All words of up to 4 bits in all texts of up to 6, at every mark.
+#[test]
+fn every_short_text() {
+    let random = Random::of("every_short_text");
+    let mut caller = Caller::new(&random, 8);
+    for (n, m) in (0..=6).flat_map(|n| (1..=4).map(move |m| (n, m))) {
+        for (t, w) in (0..1u8 << n).flat_map(|t| (0..1u8 << m).map(move |w| (t, w))) {
+            let (text, word) = ([((u16::from(t) << 8) >> n) as u8], [((u16::from(w) << 8) >> m) as u8]);
+            let pair = Pair { t: bits(&text, n), w: bits(&word, m) };
+            for mark in 0..=pair.places() as u32 {
+                for (budget, cells) in [0, 1, 2, u32::MAX].into_iter().flat_map(|b| [0, 1, 2, 8].map(|c| (b, c))) {
+                    for method in [PLAIN, WIDE] {
+                        let r = Request { method, mark, budget, cells, scratch: SCRATCH_CELLS, answer: 4 };
+                        caller.check(&text, &word, &pair, r);
+                    }
+                }
+            }
+        }
+    }
+    println!("every_short_text: {} calls", caller.calls);
+    assert!(caller.calls > 400_000);
+}
+
+/// A text and a word of it or near it. Bytes behind the last bit and bits behind the count have any content.
+struct Drawn {
+    text: Vec<u8>,
+    word: Vec<u8>,
+    pair: Pair,
+}
+
+fn drawn_bits(random: &Random, count: usize) -> Vec<bool> {
+    match random.below(4) {
+        0 => {
+            let period: Vec<bool> = (0..1 + random.below(9)).map(|_| random.once_in(2)).collect();
+            (0..count).map(|p| period[p % period.len()] ^ random.once_in(40)).collect()
+        }
+        _ => {
+            let ones = random.one_of(&[1, 2, 6, 10]);
+            (0..count).map(|_| random.below(20) < ones).collect()
+        }
+    }
+}
+
+/// The bits packed, with up to two bytes more, and with other bits behind the last one.
+fn packed(random: &Random, bits: &[bool]) -> Vec<u8> {
+    let mut bytes = pack(bits);
+    if let (Some(last), spare @ 1..) = (bytes.last_mut(), (8 - bits.len() % 8) % 8) {
+        *last |= u8::draw(random) & ((1 << spare) - 1);
+    }
+    bytes.extend((0..random.below(3)).map(|_| random.draw() as u8));
+    bytes
+}
+
+fn drawn(random: &Random, n: usize, m: usize) -> Drawn {
+    let mut t = drawn_bits(random, n);
+    let mut w = drawn_bits(random, m);
+    if m <= n && !random.once_in(4) {
+        let (p, q) = (random.below(n - m + 1), random.below(n - m + 1));
+        w.copy_from_slice(&t[p..p + m]);
+        if random.once_in(2) {
+            t[q..q + m].copy_from_slice(&w);
+        }
+        if random.once_in(3) {
+            w[random.below(m)] ^= true;
+        }
+    }
+    Drawn { text: packed(random, &t), word: packed(random, &w), pair: Pair { t, w } }
+}
+
+/// An accepted request at any mark.
+fn request(random: &Random, pair: &Pair, method: u32, most: usize) -> Request {
+    Request {
+        method,
+        mark: random.below(pair.places() + 1) as u32,
+        budget: random.one_of(&[0, 1, 2, 3, 7, 50, u32::MAX, u32::MAX]),
+        cells: random.one_of(&[0, 1, 2, 5, most, most]),
+        scratch: SCRATCH_CELLS + random.one_of(&[0, 0, 1, 77]),
+        answer: 4 + random.below(3),
+    }
+}
+
+/// A million calls on drawn texts of up to some hundred bits, with every method that takes the word.
+#[test]
+fn a_million_drawn_calls() {
+    let random = Random::of("a_million_drawn_calls");
+    let mut caller = Caller::new(&random, 400);
+    while caller.calls < 1_000_000 {
+        let (n, m) = (random.one_of(&[20, 80, 160, 400]), random.one_of(&[7, 20, 40, 80, 200]));
+        let (n, m) = (random.below(n), 1 + random.below(m));
+        let x = drawn(&random, n, m);
+        caller.redraw(&random);
+        for method in (0..4).filter(|&method| shortest(method) <= m) {
+            for _ in 0..8 {
+                let r = request(&random, &x.pair, method, 400);
+                caller.check(&x.text, &x.word, &x.pair, r);
+            }
+        }
+    }
+    println!("a_million_drawn_calls: {} calls", caller.calls);
+}
+
+/// Longer texts and words, up to the longest word.
+#[test]
+fn long_texts_and_words() {
+    let random = Random::of("long_texts_and_words");
+    let mut caller = Caller::new(&random, 20_000);
+    for _ in 0..400 {
+        let (n, m) = (random.one_of(&[2_000, 6_000, 20_000]), random.one_of(&[64, 300, 2_048]));
+        let (n, m) = (random.below(n), m - random.below(m).min(random.below(m)));
+        let x = drawn(&random, n, m);
+        caller.redraw(&random);
+        for method in (0..4).filter(|&method| shortest(method) <= m) {
+            for _ in 0..3 {
+                let r = request(&random, &x.pair, method, 20_000);
+                caller.check(&x.text, &x.word, &x.pair, r);
+            }
+        }
+    }
+    println!("long_texts_and_words: {} calls", caller.calls);
+}
+
+/// Calls of any method, budget and list from mark 0 on, each from the mark left: their places, joined, are the hits
+/// before the last mark, and they end.
+#[test]
+fn joined_lists() {
+    let random = Random::of("joined_lists");
+    let (mut scratch, mut list, mut calls) = (Scratch::new(), [0; 16], 0);
+    for _ in 0..3_000 {
+        let m = random.one_of(&[1, 3, 8, 15, 33, 70]);
+        let n = random.below(700);
+        let x = drawn(&random, n, m);
+        let recording = Recording::new(&x.text, n as u64).unwrap();
+        let word = Word::new(&x.word, m as u64).unwrap();
+        let (mut mark, mut joined, mut steps, mut fulls) = (Mark::START, Vec::<u32>::new(), 0, 0);
+        loop {
+            let method = random.one_of(&Method::ALL);
+            let budget = random.one_of(&[0, 1, 5, 40, u32::MAX]);
+            let cells = random.below(list.len() + 1);
+            calls += 1;
+            let Ok(answer) = search(recording, word, method, mark, budget, &mut list[..cells], &mut scratch) else {
+                assert!(m < shortest(method as u32));
+                continue;
+            };
+            joined.extend(&list[..answer.hits]);
+            mark = answer.mark;
+            steps += answer.steps;
+            fulls += u32::from(answer.stop == Stop::Full(mark.place()));
+            assert!(answer.stop != Stop::Spent || answer.steps == budget);
+            assert!(steps <= mark.place() + fulls);
+            let before: Vec<u32> = x.pair.hits().into_iter().filter(|&s| s < mark.place()).collect();
+            assert_eq!(joined, before);
+            assert_eq!(answer.stop == Stop::Done, mark.place() as usize + m > n);
+            if answer.stop == Stop::Done {
+                break;
+            }
+        }
+    }
+    println!("joined_lists: {calls} calls");
+}
+
+/// The refusals 100, 101 and 1 to 7, first to last.
+fn refusal(text: &[u8], n: u64, word: &[u8], m: u64, r: Request) -> u32 {
+    let places = if m <= n { n.wrapping_sub(m).wrapping_add(1) } else { 0 };
+    let rows = [
+        (100, r.method > 3),
+        (101, r.answer < 4),
+        (1, n > 1 << 30),
+        (2, (text.len() as u64) < n.div_ceil(8)),
+        (3, m == 0 || m > 2_048),
+        (4, (word.len() as u64) < m.div_ceil(8)),
+        (5, m < shortest(r.method) as u64),
+        (6, u64::from(r.mark) > places),
+        (7, r.scratch < 4_224),
+    ];
+    rows.into_iter().find(|&(_, holds)| holds).map_or(0, |(number, _)| number)
+}
+
+/// Requests in which any of the conditions may hold, alone and together.
+#[test]
+fn refusals_in_order() {
+    let random = Random::of("refusals_in_order");
+    let mut caller = Caller::new(&random, 64);
+    let mut seen = std::collections::BTreeMap::new();
+    let bytes: Vec<u8> = (0..300).map(|_| random.draw() as u8).collect();
+    while caller.calls < 200_000 {
+        // Each value is good most of the time, so that the late rows are reached too.
+        let good = |random: &Random| !random.once_in(6);
+        let m = if good(&random) { 1 + random.below(40) as u64 } else { 1 << random.below(64) };
+        let m = random.one_of(&[m, m, m, 0, 7, 8, 14, 15, 2_048, 2_049, u64::MAX]);
+        let n = if good(&random) { random.below(64) as u64 } else { 1 << random.below(64) };
+        let n = random.one_of(&[n, n, n, n, 0, (1 << 30) + 1, (1 << 32) + 9, u64::MAX]);
+        let enough = |random: &Random, count: u64| {
+            let len = (count.div_ceil(8) as usize).min(300);
+            if random.once_in(6) {
+                random.below(len + 1)
+            } else {
+                len
+            }
+        };
+        let text = &bytes[..enough(&random, n)];
+        let word = &bytes[300 - enough(&random, m)..];
+        let places = if m <= n { n.wrapping_sub(m).wrapping_add(1) } else { 0 };
+        let near = places.wrapping_add(random.below(3) as u64).wrapping_sub(1) as u32;
+        let r = Request {
+            method: random.one_of(&[0, 1, 2, 3, 0, 1, 2, 3, 0, 1, 2, 3, 4, 256, 1 << 16, 1 << 31, u32::MAX]),
+            mark: random.one_of(&[0, 0, near, near, 1 << random.below(32), u32::MAX]),
+            budget: random.one_of(&[0, 1, u32::MAX]),
+            cells: random.below(64),
+            scratch: random.one_of(&[0, 1, 4_223, 4_224, 4_224, 4_224, 4_224, 4_225]),
+            answer: random.one_of(&[0, 1, 2, 3, 4, 4, 4, 4, 4, 4, 4, 4, 4, 4, 5]),
+        };
+        let want = refusal(text, n, word, m, r);
+        *seen.entry(want).or_insert(0) += 1;
+        if want == 0 {
+            let pair = Pair { t: bits(text, n as usize), w: bits(word, m as usize) };
+            caller.check(text, word, &pair, r);
+        } else {
+            caller.check_refused(text, n, word, m, r, want);
+        }
+    }
+    println!("refusals_in_order: {} calls, by number {seen:?}", caller.calls);
+    assert!(seen.keys().copied().eq([0, 1, 2, 3, 4, 5, 6, 7, 100, 101]));
+    assert!(seen.values().all(|&count| count > 1_000));
+}

@@ -1,0 +1,77 @@
+//! The calls for eight bits and for H against their rules.
+use crate::buffers::Lent;
+use crate::random::Random;
+use crate::rules::{bits, least_move};
+use mitongory::ffi;
+
+/// A call's number and answer are as they should be: the value, or a refusal that leaves the answer.
+fn check(said: u32, answer: &Lent<u64>, want: Result<u64, u32>) -> bool {
+    match want {
+        Ok(value) => said == 0 && answer.begins_with(&[value]),
+        Err(number) => said == number && answer.unchanged(),
+    }
+}
+
+fn byte(eight: &[bool]) -> u64 {
+    eight.iter().fold(0, |sum, &bit| 2 * sum + u64::from(bit))
+}
+
+#[test]
+fn eight_bits() {
+    let random = Random::of("eight_bits");
+    let (calls, mut answer) = (400_000, Lent::new(&random, 4));
+    let bytes: Vec<u8> = (0..40).map(|_| random.draw() as u8).collect();
+    for _ in 0..calls {
+        let bytes = &bytes[random.below(40)..];
+        let len = bytes.len() as u64;
+        let near = 8 * len + random.below(20) as u64;
+        let n = random.one_of(&[8 * len, near - near.min(10), 0, 7, 8, 1 << random.below(64), u64::MAX]);
+        let end = n.wrapping_sub(random.below(12) as u64) as u32;
+        let place = random.one_of(&[random.one_of(&[0, 1]), end, random.below(320) as u32, u32::MAX, u32::MAX - 7]);
+        let cells = random.one_of(&[0, 1, 1, 1, 2, 4]);
+        let want = match () {
+            _ if cells == 0 => Err(101),
+            _ if n > 1 << 30 => Err(1),
+            _ if len < n.div_ceil(8) => Err(2),
+            _ if u64::from(place) + 8 > n => Err(6),
+            _ => Ok(byte(&bits(bytes, n as usize)[place as usize..place as usize + 8])),
+        };
+        let said = ffi::eight_bits(bytes, n, place, answer.lend(cells));
+        assert!(check(said, &answer, want), "{bytes:x?}, n {n}, place {place}, {cells} cells: {said}, not {want:?}");
+    }
+    println!("eight_bits: {calls} calls");
+}
+
+#[test]
+fn hash_value() {
+    let random = Random::of("hash_value");
+    let (mut calls, mut answer) = (0, Lent::new(&random, 4));
+    let long: Vec<u8> = (0..257).map(|_| random.draw() as u8).collect();
+    // All bytes alike, with all bits alike or not: words that agree with themselves after many moves.
+    let alike: Vec<Vec<u8>> = [0, 255, 0b0101_0101, 0b0001_0001].map(|b| vec![b; 257]).into();
+    for round in 0..1_500 {
+        let bytes = if round % 3 == 0 { &alike[random.below(4)] } else { &long };
+        let from = random.below(257);
+        let bytes = &bytes[if round % 10 == 0 { 0 } else { from }..];
+        let len = bytes.len() as u64;
+        let near = (8 * len + random.below(10) as u64).max(6) - 6;
+        let m = random.one_of(&[near, 0, 1, 7, 8, 9, 16, 21, 2_048, 2_049, 1 << random.below(64), u64::MAX]);
+        let cells = random.one_of(&[0, 1, 1, 1, 2, 4]);
+        let refused = [(101, cells == 0), (3, m == 0 || m > 2_048), (4, len < m.div_ceil(8)), (5, m < 8)];
+        let refused = refused.into_iter().find(|&(_, holds)| holds);
+        let w = refused.map_or_else(|| bits(bytes, m as usize), |_| Vec::new());
+        for value in 0..=255 {
+            let want = match refused {
+                Some((number, _)) => Err(number),
+                None => Ok(least_move(&w, &bits(&[value], 8), 0) as u64),
+            };
+            let said = ffi::hash_value(bytes, m, value, answer.lend(cells));
+            assert!(
+                check(said, &answer, want),
+                "{bytes:x?}, m {m}, value {value}, {cells} cells: {said}, not {want:?}"
+            );
+            calls += 1;
+        }
+    }
+    println!("hash_value: {calls} calls");
+}
