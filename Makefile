@@ -1,4 +1,4 @@
-# run: build `hits` and search the course's first paper. test: the whole gate, from nothing. bench: the library against C.
+# run: build `hits` and search the course's first paper. test: the whole gate, from nothing. bench: the library against C and Rust.
 .PHONY: run test bench
 
 run:
@@ -9,11 +9,6 @@ run:
 test:
 	@tests/run
 
-# MODE: check, time, hard or short (bench/bench.c says what each does).
-MODE ?= time
+# Prints the tables and writes docs/PERFORMANCE.md. MODE=check checks instead; other modes (bench/bench.c) time one part.
 bench:
-	@rt staticlib timing >/dev/null 2>&1
-	@mkdir -p target/bench
-	@gcc -O3 -Wall -c bench/yardstick.c -o target/bench/yardstick.o
-	@gcc -O2 -Wall bench/bench.c target/bench/yardstick.o target/staticlib/libtiming.a -o target/bench/bench
-	@target/bench/bench $(MODE)
+	@bench/run $(MODE)

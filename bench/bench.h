@@ -1,0 +1,11 @@
+// The benchmark's parts: the check, the timed searches and the timed list files. Tables go to standard output as
+// Markdown, progress to standard error.
+#ifndef BENCH_H
+#define BENCH_H
+
+int check(long rounds);
+void time_texts(int log2);
+void time_hard(void);
+void time_short(void);
+void time_files(void);
+#endif

@@ -1,0 +1,96 @@
+// What a Rust programmer would write first, on packed bytes: plain loops over places and bits, and over the file's bytes.
+// The functions at the end give them C names.
+use std::slice;
+
+fn bit(bytes: &[u8], p: usize) -> bool {
+    bytes[p / 8] >> (7 - p % 8) & 1 == 1
+}
+
+fn search(text: &[u8], n: usize, word: &[u8], m: usize, list: &mut [u32]) -> usize {
+    let mut hits = 0;
+    for s in 0..(n + 1).saturating_sub(m) {
+        if (0..m).all(|j| bit(text, s + j) == bit(word, j)) {
+            list[hits] = s as u32;
+            hits += 1;
+        }
+    }
+    hits
+}
+
+const LIMIT: u32 = 1 << 30;
+
+fn put(mut x: u32, target: &mut [u8], at: &mut usize) -> Option<()> {
+    while x >= 128 {
+        *target.get_mut(*at)? = (x % 128 + 128) as u8;
+        *at += 1;
+        x /= 128;
+    }
+    *target.get_mut(*at)? = x as u8;
+    *at += 1;
+    Some(())
+}
+
+fn write(list: &[u32], target: &mut [u8]) -> Option<usize> {
+    let mut at = 0;
+    put(list.len() as u32, target, &mut at)?;
+    let mut least = 0;
+    for &p in list {
+        if p < least || p >= LIMIT {
+            return None;
+        }
+        put(p - least, target, &mut at)?;
+        least = p + 1;
+    }
+    Some(at)
+}
+
+fn take(file: &[u8], at: &mut usize) -> Option<u32> {
+    let mut value = 0u64;
+    for group in 0..5 {
+        let byte = *file.get(*at)?;
+        *at += 1;
+        value |= u64::from(byte & 127) << (7 * group);
+        if byte < 128 {
+            let fewest = group == 0 || byte != 0;
+            return u32::try_from(value).ok().filter(|&x| fewest && x <= LIMIT);
+        }
+    }
+    None
+}
+
+fn read(file: &[u8], cells: &mut [u32]) -> Option<usize> {
+    let mut at = 0;
+    let count = take(file, &mut at)? as usize;
+    let mut least = 0;
+    for cell in cells.get_mut(..count)? {
+        let p = least + take(file, &mut at)?;
+        if p >= LIMIT {
+            return None;
+        }
+        *cell = p;
+        least = p + 1;
+    }
+    (at == file.len()).then_some(count)
+}
+
+/// # Safety
+/// The pointers have the bytes of n and m bits, and cells for every hit.
+#[no_mangle]
+pub unsafe extern "C" fn naive_search(t: *const u8, n: usize, w: *const u8, m: usize, list: *mut u32, cells: usize) -> usize {
+    let (text, word) = (slice::from_raw_parts(t, n.div_ceil(8)), slice::from_raw_parts(w, m.div_ceil(8)));
+    search(text, n, word, m, slice::from_raw_parts_mut(list, cells))
+}
+
+/// # Safety
+/// Each pointer has as many elements as the number behind it says.
+#[no_mangle]
+pub unsafe extern "C" fn naive_write(list: *const u32, count: usize, target: *mut u8, len: usize) -> usize {
+    write(slice::from_raw_parts(list, count), slice::from_raw_parts_mut(target, len)).unwrap_or(usize::MAX)
+}
+
+/// # Safety
+/// Each pointer has as many elements as the number behind it says.
+#[no_mangle]
+pub unsafe extern "C" fn naive_read(file: *const u8, len: usize, cells: *mut u32, count: usize) -> usize {
+    read(slice::from_raw_parts(file, len), slice::from_raw_parts_mut(cells, count)).unwrap_or(usize::MAX)
+}

@@ -1,0 +1,76 @@
+// See rules.h.
+#include "rules.h"
+#include "draw.h"
+
+const char *const method_names[4] = {"plain", "hash", "skip", "wide"};
+
+int takes(int method, size_t m) { return m >= (method == HASH ? 8u : method == SKIP ? 15u : 1u); }
+
+static int hit(const uint8_t *t, const uint8_t *w, size_t m, size_t s) {
+    for (size_t j = 0; j < m; j++)
+        if (bit_at(t, s + j) != bit_at(w, j)) return 0;
+    return 1;
+}
+
+static size_t least(const uint8_t *w, long m, const int *b, long d) {
+    for (;; d++) {
+        int ok = 1;
+        for (long j = 0; j < 8; j++)
+            if (m - 8 - d + j >= 0 && bit_at(w, m - 8 - d + j) != b[j]) ok = 0;
+        if (ok) return d;
+    }
+}
+
+// One step: finds to f, their number to *k; returns the next mark.
+static size_t step(const uint8_t *t, size_t n, const uint8_t *w, size_t m, int method, size_t s, size_t *f, size_t *k) {
+    size_t end = n - m + 1, next = s + 1;
+    *k = 0;
+    if (method == PLAIN) {
+        if (hit(t, w, m, s)) f[(*k)++] = s;
+    } else if (method == HASH) {
+        int b[8];
+        for (int j = 0; j < 8; j++) b[j] = bit_at(t, s + m - 8 + j);
+        size_t h = least(w, m, b, 0);
+        if (h == 0) {
+            if (hit(t, w, m, s)) f[(*k)++] = s;
+            h = least(w, m, b, 1);
+        }
+        next = s + h;
+    } else if (method == SKIP) {
+        size_t b = (s + m) / 8 - 1;
+        for (size_t a = s; a <= 8 * b && a < end; a++)
+            if (hit(t, w, m, a)) f[(*k)++] = a;
+        next = 8 * b + 1;
+    } else {
+        for (size_t i = 0; i < 64 && s + i < end; i++)
+            if (hit(t, w, m, s + i)) f[(*k)++] = s + i;
+        size_t ws = 63 + m;
+        if (s + ws >= n)
+            next = end;
+        else {
+            size_t j = m;
+            while (j && bit_at(w, j - 1) != bit_at(t, s + ws)) j--;
+            next = s + ws + 1 - j;
+        }
+    }
+    return next < end ? next : end;
+}
+
+void rules_search(const uint8_t *t, size_t n, const uint8_t *w, size_t m, int method, size_t mark, size_t budget,
+                  uint32_t *list, size_t cells, struct answer *out) {
+    size_t end = m <= n ? n - m + 1 : 0, steps = 0, hits = 0, k;
+    static size_t f[8192];
+    while (mark < end && steps < budget) {
+        size_t next = step(t, n, w, m, method, mark, f, &k);
+        steps++;
+        for (size_t i = 0; i < k; i++) {
+            if (hits == cells) {
+                *out = (struct answer){0, steps, hits, f[i], FULL};
+                return;
+            }
+            list[hits++] = (uint32_t)f[i];
+        }
+        mark = next;
+    }
+    *out = (struct answer){0, steps, hits, mark, mark == end ? DONE : SPENT};
+}

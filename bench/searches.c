@@ -1,0 +1,164 @@
+// Times searches: each method of the library against the same rule in C and against the naive Rust loop, which finds the
+// same hits in its one way.
+#include "bench.h"
+#include "draw.h"
+#include "library.h"
+#include "naive.h"
+#include "rules.h"
+#include "timing.h"
+#include <stdio.h>
+#include <stdlib.h>
+#include <string.h>
+
+enum { METHODS = 4, CONTENDERS = 2 * METHODS + 1, LOOP = 2 * METHODS, WORDS = 2, ALL = -1 };
+
+static uint64_t scratch[CELLS];
+
+// A text and a word, and what each contender found: the library's methods, then the yardstick's, then the naive loop. That
+// one takes the same time for each bit of any such text, and long; so it gets the text's first eighth.
+struct job {
+    const uint8_t *t, *w;
+    size_t n, m, cells;
+    uint32_t *list;
+    struct answer answers[CONTENDERS];
+    uint64_t sums[CONTENDERS][2];
+};
+
+static void search(void *of, int contender) {
+    struct job *job = of;
+    struct answer *out = job->answers + contender;
+    int method = contender % METHODS;
+    if (contender == LOOP)
+        *out = (struct answer){.hits = naive_search(job->t, job->n / 8, job->w, job->m, job->list, job->cells)};
+    else if (!takes(method, job->m))
+        return;
+    else if (contender < METHODS)
+        library_search(job->t, job->n, job->w, job->m, method, 0, ALL, job->list, job->cells, scratch, out);
+    else
+        c_search(job->t, job->n, job->w, job->m, method, 0, ALL, job->list, job->cells, scratch, out);
+}
+
+// A sum over the list and one over the hits in the first eighth.
+static void sum(void *of, int contender) {
+    struct job *job = of;
+    uint64_t *sums = job->sums[contender];
+    sums[0] = sums[1] = 0;
+    for (size_t i = 0; i < job->answers[contender].hits; i++) {
+        sums[0] = sums[0] * 31 + job->list[i];
+        if (job->list[i] + job->m <= job->n / 8) sums[1] = sums[0];
+    }
+}
+
+static void compare(const struct job *job) {
+    for (int i = 0; i < METHODS; i++) {
+        int c = METHODS + i;
+        if (!takes(i, job->m)) continue;
+        if (memcmp(job->answers + i, job->answers + c, sizeof *job->answers) || job->sums[i][0] != job->sums[c][0] ||
+            job->sums[i][1] != job->sums[LOOP][0]) {
+            printf("%s, n %zu, m %zu: the answers differ\n", method_names[i], job->n, job->m);
+            exit(1);
+        }
+    }
+}
+
+// One job's least times, added to the sums of nanoseconds a bit.
+static void measure(struct job *job, double seconds, double *sums) {
+    double best[CONTENDERS];
+    least((struct race){search, sum, job, CONTENDERS}, seconds, 5, best);
+    compare(job);
+    for (int i = 0; i < CONTENDERS; i++) sums[i] += best[i] / (i == LOOP ? job->n / 8 : job->n);
+}
+
+// A row for each method that takes the word.
+static void rows(const char *what, size_t m, const double *sums, int words) {
+    for (int method = 0; method < METHODS; method++) {
+        if (!takes(method, m)) continue;
+        double ns[SIDES] = {sums[method] / words, sums[METHODS + method] / words, sums[LOOP] / words};
+        char name[80];
+        snprintf(name, sizeof name, "%s | %s", what, method_names[method]);
+        row(name, ns);
+        note(method, ns);
+    }
+}
+
+void time_texts(int log2) {
+    static const unsigned zeros[] = {50, 70, 90};
+    static const size_t lengths[] = {8, 15, 20, 32, 64, 128, 500, 2048};
+    size_t n = (size_t)1 << log2, cells = n / 2;
+    uint8_t *t = malloc(n / 8), w[256];
+    uint32_t *list = malloc(cells * sizeof *list);
+    memset(list, 1, cells * sizeof *list); // so that no run pays for new pages
+    for (size_t z = 0; z < 3; z++) {
+        printf("\n### %u %% zeros\n", zeros[z]);
+        head(" m | method | library | C | naive Rust | library / C | naive / library ");
+        draw_text(t, n, zeros[z]);
+        for (size_t k = 0; k < sizeof lengths / sizeof *lengths; k++) {
+            double sums[CONTENDERS] = {0};
+            progress("searching: %u %% zeros, m = %zu", zeros[z], lengths[k]);
+            for (int word = 0; word < WORDS; word++) {
+                draw_word(w, lengths[k], t, n);
+                struct job job = {.t = t, .w = w, .n = n, .m = lengths[k], .cells = cells, .list = list};
+                measure(&job, 3.5, sums);
+            }
+            char what[16];
+            snprintf(what, sizeof what, "%zu", lengths[k]);
+            rows(what, lengths[k], sums, WORDS);
+        }
+    }
+    printf("\n### All rows\n");
+    summary(method_names, METHODS);
+    free(t), free(list);
+}
+
+// Texts and words on which little is ruled out early.
+void time_hard(void) {
+    static const size_t lengths[] = {15, 64, 2048};
+    static const char *const kinds[] = {"zeros, word of zeros", "zeros, word ends in 1", "zeros, word begins with 1", "period 6"};
+    size_t n = 1 << 19;
+    uint8_t *t = malloc(n / 8), w[256];
+    uint32_t *list = calloc(n, sizeof *list);
+    head(" text and word | m | method | library | C | naive Rust | library / C | naive / library ");
+    for (int kind = 0; kind < 4; kind++) {
+        progress("hard texts: %s", kinds[kind]);
+        for (size_t k = 0; k < 3; k++) {
+            size_t m = lengths[k];
+            double sums[CONTENDERS] = {0};
+            for (size_t i = 0; i < n; i++) set_bit(t, i, kind == 3 && "110010"[i % 6] == '1');
+            for (size_t i = 0; i < m; i++)
+                set_bit(w, i, kind == 1 ? i == m - 1 : kind == 2 ? i == 0 : kind == 3 && "110010"[i % 6] == '1');
+            struct job job = {.t = t, .w = w, .n = n, .m = m, .cells = n, .list = list};
+            measure(&job, 1, sums);
+            char what[80];
+            snprintf(what, sizeof what, "%s | %zu", kinds[kind], m);
+            rows(what, m, sums, 1);
+        }
+    }
+    free(t), free(list);
+}
+
+// A thousand calls with a budget of one step, from marks 0 to 999: mostly the making of tables.
+static void search_shortly(void *of, int contender) {
+    struct job *job = of;
+    struct answer *out = job->answers + contender;
+    for (uint32_t mark = 0; mark < 1000; mark++)
+        (contender < METHODS ? library_search : c_search)(job->t, job->n, job->w, job->m, contender % METHODS, mark, 1, job->list,
+                                                          job->cells, scratch, out);
+}
+
+void time_short(void) {
+    static const size_t lengths[] = {15, 2048};
+    static uint8_t t[4096], w[256];
+    static uint32_t list[16];
+    draw_text(t, 8 * sizeof t, 50);
+    progress("calls with a budget of 1");
+    head(" m | method | library | C | library / C ");
+    for (size_t k = 0; k < 2; k++) {
+        double best[2 * METHODS];
+        draw_word(w, lengths[k], t, 8 * sizeof t);
+        struct job job = {.t = t, .w = w, .n = 8 * sizeof t, .m = lengths[k], .cells = 16, .list = list};
+        least((struct race){search_shortly, 0, &job, 2 * METHODS}, 4, 40, best);
+        for (int method = 0; method < METHODS; method++)
+            printf("| %zu | %s | %.0f | %.0f | %.2f |\n", lengths[k], method_names[method], best[method] / 1000,
+                   best[METHODS + method] / 1000, best[method] / best[METHODS + method]);
+    }
+}
