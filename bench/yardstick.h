@@ -1,4 +1,4 @@
-// The C yardstick: the four search rules in plain C, with the call's loop, for bench.c to measure the library against.
+// The C yardstick: the four search rules in plain C, with the call's loop, to measure the library against.
 #ifndef YARDSTICK_H
 #define YARDSTICK_H
 #include <stddef.h>

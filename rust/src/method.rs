@@ -6,6 +6,7 @@ use std::str::FromStr;
 /// A way to search.
 #[derive(Clone, Copy, Debug, PartialEq, Eq, Hash)]
 #[repr(u32)]
+#[non_exhaustive]
 pub enum Method {
     /// Every place in turn.
     Plain = 0,

@@ -5,6 +5,7 @@ use std::fmt;
 /// A reason to refuse a call. A refused call changes nothing.
 #[derive(Clone, Copy, Debug, PartialEq, Eq, Hash)]
 #[repr(u32)]
+#[non_exhaustive]
 pub enum Refusal {
     /// The recording has more than 2^30 bits.
     RecordingTooLong = 1,

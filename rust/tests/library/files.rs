@@ -92,6 +92,7 @@ fn written_lists() {
         caller.check_write(&list, len, random.one_of(&[0, 1, 1, 1, 1, 1, 2, 4]));
     }
     println!("written_lists: {} calls", caller.calls);
+    assert_eq!(caller.calls, 300_000);
 }
 
 /// Good files, and such with a bit flipped, cut, extended, with bytes put in, taken out or replaced.
@@ -127,6 +128,7 @@ fn damaged_files() {
         assert_eq!(positions::decode(&file).map_err(|r| r.number()), codec::decode(&file, file.len().max(1) - 1));
     }
     println!("damaged_files: {} calls, by number {seen:?}", 2 * caller.calls);
+    assert!(caller.calls > 200_000);
     assert!(seen.keys().copied().eq([0, 10, 11, 12, 13, 14, 101]));
     assert!(seen.values().all(|&count| count > 1_000));
 }

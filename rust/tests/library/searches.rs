@@ -158,6 +158,20 @@ fn request(random: &Random, pair: &Pair, method: u32, most: usize) -> Request {
     }
 }
 
+impl Caller {
+    /// Some calls with each method that takes the word, on one drawn text.
+    fn check_drawn(&mut self, random: &Random, n: usize, m: usize, most: usize) {
+        let x = drawn(random, n, m);
+        self.redraw(random);
+        for method in (0..4).filter(|&method| shortest(method) <= m) {
+            for _ in 0..6 {
+                let r = request(random, &x.pair, method, most);
+                self.check(&x.text, &x.word, &x.pair, r);
+            }
+        }
+    }
+}
+
 /// A million calls on drawn texts of up to some hundred bits, with every method that takes the word.
 #[test]
 fn a_million_drawn_calls() {
@@ -166,14 +180,7 @@ fn a_million_drawn_calls() {
     while caller.calls < 1_000_000 {
         let (n, m) = (random.one_of(&[20, 80, 160, 400]), random.one_of(&[7, 20, 40, 80, 200]));
         let (n, m) = (random.below(n), 1 + random.below(m));
-        let x = drawn(&random, n, m);
-        caller.redraw(&random);
-        for method in (0..4).filter(|&method| shortest(method) <= m) {
-            for _ in 0..8 {
-                let r = request(&random, &x.pair, method, 400);
-                caller.check(&x.text, &x.word, &x.pair, r);
-            }
-        }
+        caller.check_drawn(&random, n, m, 400);
     }
     println!("a_million_drawn_calls: {} calls", caller.calls);
 }
@@ -186,16 +193,10 @@ fn long_texts_and_words() {
     for _ in 0..400 {
         let (n, m) = (random.one_of(&[2_000, 6_000, 20_000]), random.one_of(&[64, 300, 2_048]));
         let (n, m) = (random.below(n), m - random.below(m).min(random.below(m)));
-        let x = drawn(&random, n, m);
-        caller.redraw(&random);
-        for method in (0..4).filter(|&method| shortest(method) <= m) {
-            for _ in 0..3 {
-                let r = request(&random, &x.pair, method, 20_000);
-                caller.check(&x.text, &x.word, &x.pair, r);
-            }
-        }
+        caller.check_drawn(&random, n, m, 20_000);
     }
     println!("long_texts_and_words: {} calls", caller.calls);
+    assert!(caller.calls > 5_000);
 }
 
 /// Calls of any method, budget and list from mark 0 on, each from the mark left: their places, joined, are the hits
@@ -235,6 +236,7 @@ fn joined_lists() {
         }
     }
     println!("joined_lists: {calls} calls");
+    assert!(calls > 30_000);
 }
 
 /// The refusals 100, 101 and 1 to 7, first to last.
