@@ -1,10 +1,17 @@
 // Eight bits from a bit number, by themselves.
+use crate::cells;
 use bits::Place;
 use bits::eight;
 use bits::eight::Eight;
 use bits::eight::Refusal;
+ghost use mathlib.Core.Path.{_≡_};
+ghost use Rattle.bits.specs.Eight.{numberOf};
+ghost use Rattle.capi.specs.Told.{Tells};
+ghost use Rattle.capi.specs.EightBits.{eightTold};
 
-fn number_of(why: Refusal) -> u32 {
+fn number_of(why: Refusal) -> u32
+    ensures { λ r. ⌜ r ≡ numberOf why ⌝ }
+{
     match why {
         Refusal::TooLong => 1,
         Refusal::FewBytes => 2,
@@ -12,22 +19,17 @@ fn number_of(why: Refusal) -> u32 {
     }
 }
 
+// The eight bits from a bit number on, of the first n bits, as a byte with the first bit leftmost.
 #[no_mangle]
-pub extern "C" fn mitongory_eight_bits(
-    bytes: &[u8],
-    n: u64,
-    place: u32,
-    answer: &mut [u64],
-) -> u32 {
+pub extern "C" fn mitongory_eight_bits(bytes: &[u8], n: u64, place: u32, answer: &mut [u64]) -> u32
+    ensures { λ r. ⌜ Tells (eightTold (now (bytes .entry)) n place (now (answer .entry))) (now (answer .entry)) r (now (answer .exit)) ⌝ }
+{
     if answer.len() < 1 {
         return 101;
     }
     let found = eight::eight_bits(bytes, n, Place(place));
     match found {
         Eight::Refused(why) => number_of(why),
-        Eight::Bits(b) => {
-            answer[0] = b as u64;
-            0
-        }
+        Eight::Bits(b) => cells::one(answer, b as u64),
     }
 }

@@ -1,6 +1,6 @@
 // The search call, and H(B) by itself.
+use crate::cells;
 use bits::Place;
-use search::Answer;
 use search::Mark;
 use search::Method;
 use search::Outcome;
@@ -8,6 +8,13 @@ use search::Refusal;
 use search::Stop;
 use search::hash_value;
 use search::hash_value::HashAnswer;
+ghost use mathlib.Core.Path.{_≡_};
+ghost use Prim.Native.Nat.{_≤_};
+ghost use lib.ListN.{length};
+ghost use Rattle.search.specs.Verdict.{numberOfRefusal, endingOf};
+ghost use Rattle.capi.specs.Told.{Tells};
+ghost use Rattle.capi.specs.Scan.{methodNamed, stopNumber, Searches, hashTold};
+ghost use Rattle.capi.specs.Inner.{namedBy, outcomeTells};
 
 // The method that a number names.
 enum Named {
@@ -15,7 +22,9 @@ enum Named {
     Unknown,
 }
 
-fn method_of(k: u32) -> Named {
+fn method_of(k: u32) -> Named
+    ensures { λ r. ⌜ namedBy r ≡ methodNamed k ⌝ }
+{
     match k {
         0 => Named::Known(Method::Plain),
         1 => Named::Known(Method::Hash),
@@ -25,7 +34,9 @@ fn method_of(k: u32) -> Named {
     }
 }
 
-fn stop_of(stop: Stop) -> u64 {
+fn stop_of(stop: Stop) -> u64
+    ensures { λ r. ⌜ r ≡ stopNumber (endingOf stop) ⌝ }
+{
     match stop {
         Stop::Done => 0,
         Stop::Full(_) => 1,
@@ -33,7 +44,9 @@ fn stop_of(stop: Stop) -> u64 {
     }
 }
 
-fn number_of(why: Refusal) -> u32 {
+fn number_of(why: Refusal) -> u32
+    ensures { λ r. ⌜ r ≡ numberOfRefusal why ⌝ }
+{
     match why {
         Refusal::TextTooLong => 1,
         Refusal::TextBytesMissing => 2,
@@ -45,30 +58,29 @@ fn number_of(why: Refusal) -> u32 {
     }
 }
 
-// Stores a number where there is a cell for it.
-fn put(out: &mut [u64], i: usize, x: u64) {
-    if i < out.len() {
-        out[i] = x;
-    }
-}
-
-// The number of an outcome, and its answer in the first four cells.
-fn tell(outcome: Outcome, answer: &mut [u64]) -> u32 {
+// The number of an outcome; an accepted one's steps, hits, mark and stop go to the first four cells.
+fn tell(outcome: Outcome, answer: &mut [u64]) -> u32
+    requires { ⌜ 4 ≤ length (now answer) ⌝ }
+    ensures { λ r. ⌜ Tells (outcomeTells outcome) (now (answer .entry)) r (now (answer .exit)) ⌝ }
+{
     match outcome {
         Outcome::Refused(why) => number_of(why),
         Outcome::Accepted(a) => {
             let mark = a.mark;
             let at = mark.at;
             let stop = a.stop;
-            put(answer, 0, a.steps as u64);
-            put(answer, 1, a.hits as u64);
-            put(answer, 2, at.0 as u64);
-            put(answer, 3, stop_of(stop));
-            0
+            cells::four(
+                answer,
+                a.steps as u64,
+                a.hits as u64,
+                at.0 as u64,
+                stop_of(stop),
+            )
         }
     }
 }
 
+// Lists the places from the mark on where the pattern of m bits stands in the first n bits of the text.
 #[no_mangle]
 pub extern "C" fn mitongory_search(
     text: &[u8],
@@ -81,7 +93,9 @@ pub extern "C" fn mitongory_search(
     list: &mut [u32],
     scratch: &mut [u64],
     answer: &mut [u64],
-) -> u32 {
+) -> u32
+    ensures { λ r. ⌜ Searches (record { text = now (text .entry); n = n; word = now (word .entry); m = m; method = method; mark = mark; budget = budget; list = now (list .entry); scratch = now (scratch .entry); answer = now (answer .entry) }) r (now (list .exit)) (now (scratch .exit)) (now (answer .exit)) ⌝ }
+{
     let named = method_of(method);
     let Named::Known(known) = named else {
         return 100;
@@ -94,17 +108,17 @@ pub extern "C" fn mitongory_search(
     tell(outcome, answer)
 }
 
+// H(B) of the first m bits of the word.
 #[no_mangle]
-pub extern "C" fn mitongory_hash_value(word: &[u8], m: u64, value: u8, answer: &mut [u64]) -> u32 {
+pub extern "C" fn mitongory_hash_value(word: &[u8], m: u64, value: u8, answer: &mut [u64]) -> u32
+    ensures { λ r. ⌜ Tells (hashTold (now (word .entry)) m value (now (answer .entry))) (now (answer .entry)) r (now (answer .exit)) ⌝ }
+{
     if answer.len() < 1 {
         return 101;
     }
     let hash = hash_value::hash_value(word, m, value);
     match hash {
         HashAnswer::Refused(why) => number_of(why),
-        HashAnswer::Value(d) => {
-            answer[0] = d as u64;
-            0
-        }
+        HashAnswer::Value(d) => cells::one(answer, d as u64),
     }
 }

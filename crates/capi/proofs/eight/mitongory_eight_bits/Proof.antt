@@ -1,0 +1,58 @@
+-- `capi::eight::mitongory_eight_bits` meets its contract: few answer cells refuse, else the answer is that of `bits::eight::eight_bits`.
+-- Assumes nothing.
+use mathlib.Core.Path.{refl}
+use Rattle.capi.proofs.Calling.{eight-short, eight-tells}
+use borrow.Author.Needs.{needs}
+use Rattle.capi.proofs.eight.mitongory_eight_bits.Statement.{statement}
+use Rattle.capi.proofs.eight.mitongory_eight_bits.Tie as tie
+
+returns : tie.Need-returns
+returns c = eight-short _ _ _ _ (c .if1 .taken)
+
+eight-bits-requires : tie.Need-eight-bits-requires
+eight-bits-requires c κs = search needs
+
+enum-known-found : tie.Need-enum-known-found
+enum-known-found c = search needs
+
+number-of-requires : tie.Need-number-of-requires
+number-of-requires c κs = search needs
+
+enum-known-found-2 : tie.Need-enum-known-found-2
+enum-known-found-2 c = search needs
+
+cast-one : tie.Need-cast-one
+cast-one c = search needs
+
+one-requires : tie.Need-one-requires
+one-requires c κs = search needs
+
+returns-2 : tie.Need-returns-2
+returns-2 c =
+    let at = c .before .before .before .before in
+    eight-tells _ _ _ _ (at .eight-bits .result) _ _ (at .before .if1 .left) (at .eight-bits .ensures)
+    (rw (c .before .before .found .given .1) (record { result-is = c .number-of .ensures; answer-is = refl }))
+
+same-length : tie.Need-same-length
+same-length c = search needs
+
+returns-3 : tie.Need-returns-3
+returns-3 c =
+    let at = c .before .before .before .before .before .before .before in
+    eight-tells _ _ _ _ (at .eight-bits .result) _ _ (at .before .if1 .left) (at .eight-bits .ensures)
+    (rw (c .before .before .before .before .before .found2 .given .1) (c .before .before .one .ensures))
+
+pub mitongory-eight-bits-spec : {M : Type 1} → statement M
+mitongory-eight-bits-spec =
+    tie.close
+    (tie.spec
+    returns
+    eight-bits-requires
+    enum-known-found
+    number-of-requires
+    enum-known-found-2
+    cast-one
+    one-requires
+    returns-2
+    same-length
+    returns-3)

@@ -1,0 +1,54 @@
+-- `capi::lists::mitongory_list_size` meets its contract: few answer cells refuse, else the answer is that of `positions::size`.
+-- Assumes nothing.
+use mathlib.Core.Path.{refl}
+use Rattle.capi.proofs.Calling.{size-short, size-tells}
+use borrow.Author.Needs.{needs}
+use Rattle.capi.proofs.lists.mitongory_list_size.Statement.{statement}
+use Rattle.capi.proofs.lists.mitongory_list_size.Tie as tie
+
+returns : tie.Need-returns
+returns c = size-short _ _ (c .if1 .taken)
+
+size-requires : tie.Need-size-requires
+size-requires c κs = search needs
+
+enum-known-needed : tie.Need-enum-known-needed
+enum-known-needed c = search needs
+
+write-number-requires : tie.Need-write-number-requires
+write-number-requires c κs = search needs
+
+enum-known-needed-2 : tie.Need-enum-known-needed-2
+enum-known-needed-2 c = search needs
+
+one-requires : tie.Need-one-requires
+one-requires c κs = search needs
+
+returns-2 : tie.Need-returns-2
+returns-2 c =
+    let at = c .before .before .before .before in
+    size-tells _ _ (at .size .result) _ _ (at .before .if1 .left) (at .size .ensures)
+    (rw (c .before .before .needed .given .1) (record { result-is = c .write-number .ensures; answer-is = refl }))
+
+same-length : tie.Need-same-length
+same-length c = search needs
+
+returns-3 : tie.Need-returns-3
+returns-3 c =
+    let at = c .before .before .before .before .before .before .before in
+    size-tells _ _ (at .size .result) _ _ (at .before .if1 .left) (at .size .ensures)
+    (rw (c .before .before .before .before .before .needed2 .given .1) (c .before .before .one .ensures))
+
+pub mitongory-list-size-spec : {M : Type 1} → statement M
+mitongory-list-size-spec =
+    tie.close
+    (tie.spec
+    returns
+    size-requires
+    enum-known-needed
+    write-number-requires
+    enum-known-needed-2
+    one-requires
+    returns-2
+    same-length
+    returns-3)

@@ -1,0 +1,58 @@
+-- `capi::scan::mitongory_hash_value` meets its contract: few answer cells refuse, else the answer is that of `search::hash_value::hash_value`.
+-- Assumes nothing.
+use mathlib.Core.Path.{refl}
+use Rattle.capi.proofs.Calling.{hash-short, hash-tells}
+use borrow.Author.Needs.{needs}
+use Rattle.capi.proofs.scan.mitongory_hash_value.Statement.{statement}
+use Rattle.capi.proofs.scan.mitongory_hash_value.Tie as tie
+
+returns : tie.Need-returns
+returns c = hash-short _ _ _ _ (c .if1 .taken)
+
+hash-value-requires : tie.Need-hash-value-requires
+hash-value-requires c κs = search needs
+
+enum-known-hash : tie.Need-enum-known-hash
+enum-known-hash c = search needs
+
+number-of-requires : tie.Need-number-of-requires
+number-of-requires c κs = search needs
+
+enum-known-hash-2 : tie.Need-enum-known-hash-2
+enum-known-hash-2 c = search needs
+
+cast-one : tie.Need-cast-one
+cast-one c = search needs
+
+one-requires : tie.Need-one-requires
+one-requires c κs = search needs
+
+returns-2 : tie.Need-returns-2
+returns-2 c =
+    let at = c .before .before .before .before in
+    hash-tells _ _ _ _ (at .hash-value .result) _ _ (at .before .if1 .left) (at .hash-value .ensures)
+    (rw (c .before .before .hash .given .1) (record { result-is = c .number-of .ensures; answer-is = refl }))
+
+same-length : tie.Need-same-length
+same-length c = search needs
+
+returns-3 : tie.Need-returns-3
+returns-3 c =
+    let at = c .before .before .before .before .before .before .before in
+    hash-tells _ _ _ _ (at .hash-value .result) _ _ (at .before .if1 .left) (at .hash-value .ensures)
+    (rw (c .before .before .before .before .before .hash2 .given .1) (c .before .before .one .ensures))
+
+pub mitongory-hash-value-spec : {M : Type 1} → statement M
+mitongory-hash-value-spec =
+    tie.close
+    (tie.spec
+    returns
+    hash-value-requires
+    enum-known-hash
+    number-of-requires
+    enum-known-hash-2
+    cast-one
+    one-requires
+    returns-2
+    same-length
+    returns-3)

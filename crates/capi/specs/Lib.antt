@@ -1,0 +1,7 @@
+-- What each call for C and Rust promises, in reading order: what a call tells, then one definition for each call. The rules
+-- themselves are those of the crates below; only the numbers 100 and 101 are new here.
+pub mod Told
+pub mod Scan
+pub mod EightBits
+pub mod ListFile
+pub mod Inner

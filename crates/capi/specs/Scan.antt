@@ -1,0 +1,101 @@
+-- The search call, and H(B) by itself.
+use Prim.Native.Nat.{ℕ}
+use mathlib.Core.Path.{_≡_}
+use mathlib.Core.Bool.{cond}
+use mathlib.Core.List.{List, [], _∷_, _++_}
+use lib.Dec.{eqb}
+use lib.ListN.{length, drop}
+use Rattle.rules.specs.declared.Method.{Method}
+use Rattle.rules.specs.declared.Method.the-variants.{Plain, Hash, Skip, Wide}
+use Rattle.rules.specs.Machine.{Ending, done, spent, full, Run}
+use Rattle.search.specs.Verdict.{Request, Verdict, refused, accepted, verdict, hashVerdict, scratchCells}
+use Rattle.capi.specs.Told.{unknownMethod, fewAnswerCells, Told, gives, refuses, unlessCells, Tells}
+
+-- ---- the numbers of the methods and of the ways to stop
+
+-- a method by its number
+pub data Named : Type 0 where
+  known : Method → Named
+  unknown : Named
+
+unfoldable pub methodNamed : ℕ → Named
+methodNamed k =
+    cond (eqb k 0) (known Plain)
+    (cond (eqb k 1) (known Hash)
+    (cond (eqb k 2) (known Skip)
+    (cond (eqb k 3) (known Wide) unknown)))
+
+abbrev pub stopNumber : Ending → ℕ
+stopNumber done = 0
+stopNumber (full p) = 1
+stopNumber spent = 2
+
+-- ---- the search call
+
+-- what the call is handed: two runs of bytes with their bit counts, numbers, and the buffers as they stand at entry
+pub record Call : Type 0 where
+  pub text : List ℕ
+  pub n : ℕ
+  pub word : List ℕ
+  pub m : ℕ
+  pub method : ℕ
+  pub mark : ℕ
+  pub budget : ℕ
+  pub list : List ℕ
+  pub scratch : List ℕ
+  pub answer : List ℕ
+
+-- the same as a request to the search by a method
+abbrev pub requestOf : Method → Call → Request
+requestOf x q =
+    record {
+      text = record { bytes = q .text; count = q .n };
+      pattern = record { bytes = q .word; count = q .m };
+      method = x;
+      mark = q .mark;
+      budget = q .budget;
+      list = q .list;
+      scratch = q .scratch;
+    }
+
+-- 100 first, then 101, then the search's own verdict: refusals 1 to 7, or what the machine comes to
+abbrev pub verdictBy : Named → Call → Verdict Run
+verdictBy unknown q = refused unknownMethod
+verdictBy (known x) q = unlessCells 4 (q .answer) (refused fewAnswerCells) (verdict (requestOf x q))
+
+unfoldable pub searchVerdict : Call → Verdict Run
+searchVerdict q = verdictBy (methodNamed (q .method)) q
+
+-- the four answer cells: steps, hits, mark, stop
+abbrev pub runTells : Verdict Run → Told
+runTells (refused number) = refuses number
+runTells (accepted r) = gives (r .steps ∷ length (r .written) ∷ r .mark ∷ stopNumber (r .ending) ∷ [])
+
+-- the list at exit: the places written in front and then the cells as they were, or after a refusal all as it was
+abbrev pub listAfter : Verdict Run → List ℕ → List ℕ
+listAfter (refused number) before = before
+listAfter (accepted r) before = r .written ++ drop (length (r .written)) before
+
+-- the scratch at exit: the first 4,224 cells are free after an accepted call, later ones stay
+abbrev pub ScratchAfter : Verdict Run → List ℕ → List ℕ → Type 0
+ScratchAfter (refused number) before after = after ≡ before
+ScratchAfter (accepted r) before after =
+    (length after ≡ length before) × (drop scratchCells after ≡ drop scratchCells before)
+
+-- The promise of `mitongory_search`, for buffers that are `list`, `scratch` and `answer` at exit.
+pub record Searches (q : Call) (result : ℕ) (list scratch answer : List ℕ) : Type 0 where
+  pub tells : Tells (runTells (searchVerdict q)) (q .answer) result answer
+  pub list-is : list ≡ listAfter (searchVerdict q) (q .list)
+  pub scratch-is : ScratchAfter (searchVerdict q) (q .scratch) scratch
+
+-- ---- H(B) by itself
+
+-- one answer cell: H(B)
+abbrev pub hashTells : Verdict ℕ → Told
+hashTells (refused number) = refuses number
+hashTells (accepted d) = gives (d ∷ [])
+
+-- What `mitongory_hash_value` tells: 101 first, then refusals 3 to 5, or H(B).
+unfoldable pub hashTold : List ℕ → ℕ → ℕ → List ℕ → Told
+hashTold word m value answer =
+    unlessCells 1 answer (refuses fewAnswerCells) (hashTells (hashVerdict (record { bytes = word; count = m }) value))
