@@ -115,7 +115,7 @@ module _ (q : Call) where
       }
 
   -- the verdict is the search's own
-  searched-by : (x : Method) → methodNamed (q .method) ≡ known x → 4 ≤ length (q .answer)
+  pub searched-by : (x : Method) → methodNamed (q .method) ≡ known x → 4 ≤ length (q .answer)
       → searchVerdict q ≡ verdict (requestOf x q)
   unfolding searchVerdict
   searched-by x e h = rw (e, enough-cells 4 (q .answer))

@@ -1,0 +1,62 @@
+-- The promise of the search call for C leaves nothing open, and where the method is known and there are four answer cells it is the
+-- promise of the library's search call; so the theorem about every list of calls (`whole` of the search crate) is about
+-- calls from C too.
+-- Assumes nothing.
+use Prim.Native.Nat.{ℕ, _≤_}
+use mathlib.Core.Path.{_≡_, sym, _∙_}
+use mathlib.Core.List.{List}
+use lib.ListN.{length}
+use Rattle.rules.specs.declared.Method.{Method}
+use Rattle.search.specs.declared.Outcome.{Outcome}
+use Rattle.search.specs.declared.Outcome.the-variants.{Accepted, Refused}
+use Rattle.search.specs.Verdict.{Searched}
+use Rattle.search.proofs.Answers.{Answered, answered}
+use Rattle.capi.specs.Told.{Tells}
+use Rattle.capi.specs.Scan.{methodNamed, known, Call, requestOf, Searches}
+use Rattle.capi.specs.Inner.{outcomeTells}
+use Rattle.capi.proofs.Calling.{searched-by}
+
+-- one result, one list and one answer
+pub unique : (q : Call) (r r′ : ℕ) (list list′ scratch scratch′ answer answer′ : List ℕ) → Searches q r list scratch answer
+    → Searches q r′ list′ scratch′ answer′ → (r ≡ r′) × (list ≡ list′) × (answer ≡ answer′)
+unique q r r′ list list′ scratch scratch′ answer answer′ s t = (
+  s .tells .result-is ∙ sym (t .tells .result-is),
+  s .list-is ∙ sym (t .list-is),
+  s .tells .answer-is ∙ sym (t .tells .answer-is),
+)
+
+-- the outcome of the library's call that a call from C is
+pub record AsSearched (q : Call) (x : Method) (r : ℕ) (list scratch answer : List ℕ) : Type 0 where
+  pub outcome : Outcome
+  pub searched : Searched (requestOf x q) outcome list scratch
+  pub tells : Tells (outcomeTells outcome) (q .answer) r answer
+
+pub as-searched : (q : Call) (x : Method) (r : ℕ) (list scratch answer : List ℕ) → methodNamed (q .method) ≡ known x
+    → 4 ≤ length (q .answer) → Searches q r list scratch answer → AsSearched q x r list scratch answer
+as-searched q x r list scratch answer e h s =
+    let a = answered (requestOf x q) in
+    go (a .outcome) (a .list) (a .scratch) (a .searched)
+  where
+    go : (o : Outcome) (l u : List ℕ) → Searched (requestOf x q) o l u → AsSearched q x r list scratch answer
+    go (Accepted a) l u p =
+        let v = searched-by q x e h ∙ p .verdict-is in
+        let kept = rw v at (s .scratch-is) in
+        record {
+          outcome = Accepted a;
+          searched =
+              record {
+                verdict-is = p .verdict-is;
+                answer = p .answer;
+                list-is = rw v at (s .list-is);
+                scratch-length = kept .0;
+                scratch-rest = kept .1;
+              };
+          tells = rw (p .answer .steps, p .answer .hits, p .answer .mark, p .answer .ending) (rw v at (s .tells));
+        }
+    go (Refused y) l u p =
+        let v = searched-by q x e h ∙ p .verdict-is in
+        record {
+          outcome = Refused y;
+          searched = record { verdict-is = p .verdict-is; list-is = rw v at (s .list-is); scratch-is = rw v at (s .scratch-is) };
+          tells = rw v at (s .tells);
+        }
