@@ -1,5 +1,4 @@
 -- The laws of the hash method's tables and steps.
-pub mod Shifted
 pub mod HashSteps
 pub mod HashTables
 pub mod HashValues

@@ -3,3 +3,4 @@ pub mod Chunks
 pub mod Progress
 pub mod Writing
 pub mod Advancing
+pub mod Shifted

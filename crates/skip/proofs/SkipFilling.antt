@@ -16,15 +16,9 @@ use Rattle.bits.proofs.Run.{bits-lt}
 use Rattle.rules.specs.declared.Method.the-variants.{Skip}
 use Rattle.rules.specs.Pattern.{Pattern}
 use Rattle.matcher.specs.Tables.{chained, lastShown, Prepared}
+use Rattle.skip.specs.SkipChains.{Filled}
 use Rattle.rules.proofs.Ranges.{eq-or-below}
 use Rattle.skip.proofs.SkipChain.{shown-zero, shown-here, shown-before}
-
--- the indices below k are entered
-pub record Filled (w : Pattern) (before : List ℕ) (k : ℕ) (cells : List ℕ) : Type 0 where
-  pub heads : (B : ℕ) → B < 256 → getD cells B 0 ≡ lastShown w B k
-  pub links : (j : ℕ) → j < k → getD cells (256 + j) 0 ≡ lastShown w (bitsAt (w .bytes) j 8) j
-  pub size : length cells ≡ length before
-  pub behind : drop (256 + w .count) cells ≡ drop (256 + w .count) before
 
 -- n cells set to 0
 module _ (n : ℕ) (before cells : List ℕ) (e : cells ≡ replicate n 0 ++ drop n before) where
@@ -108,6 +102,16 @@ filled-more w before cells k v f ev h room =
         drop-set-lt (256 + w .count) (set cells (256 + k) (getD cells v 0)) v (k + 1) (omega (arith, small))
         ∙ drop-set-lt (256 + w .count) cells (256 + k) (getD cells v 0) (omega arith)
         ∙ f .behind
+
+-- the same, told of the cells as they now are
+pub filled-here : {w : Pattern} {before : List ℕ} {k : ℕ} {cells : List ℕ} → Filled w before k cells → Filled w cells k cells
+filled-here f = record { heads = f .heads; links = f .links; size = refl; behind = refl }
+
+-- more indices entered behind some
+pub filled-then : {w : Pattern} {before : List ℕ} {k : ℕ} {cells : List ℕ} {k' : ℕ} {cells' : List ℕ} → Filled w before k cells → Filled w cells k' cells'
+    → Filled w before k' cells'
+filled-then f g =
+    record { heads = g .heads; links = g .links; size = g .size ∙ f .size; behind = g .behind ∙ f .behind }
 
 -- all indices are entered, from empty chains on
 pub filled-all : (w : Pattern) (before cleared cells : List ℕ) (k : ℕ) → cleared ≡ replicate 256 0 ++ drop 256 before → 256 ≤ length before

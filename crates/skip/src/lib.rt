@@ -15,6 +15,7 @@ ghost use Prim.Native.Nat.{_+_, _-_, _*_, _≤_, _<_, min};
 ghost use lib.ListN.{length, drop, replicate};
 ghost use Rattle.bits.specs.Packed.{bitsAt};
 ghost use Rattle.rules.specs.Occurrence.{places};
+ghost use Rattle.skip.specs.SkipChains.{Filled};
 ghost use Rattle.matcher.specs.Tables.{cellsFor, chained, lastShown, SkipTables, Prepared};
 ghost use Rattle.matcher.specs.Progress.{textOf, patternOf, HeadOf, GoodPattern, Ready, Stepped, Advanced};
 
@@ -30,7 +31,26 @@ fn clear(cells: &mut [u64])
     }
 }
 
-// Enters the indices of the places of a step from a mark 8 b + 1 on, rising, each at the head of its chain.
+// Enters k indices from j on, rising, each at the head of its chain: the bytes that the pattern shows there begin one bit
+// behind the other in one load.
+fn enter(word: &[u8], m: u32, j: u32, k: u32, cells: &mut [u64])
+    requires { ⌜ (j + k ≤ m) × (m ≤ 2048) × (k ≤ 57) × (256 + m ≤ length (now cells)) ⌝ }
+    requires { ⌜ Filled (patternOf (now word) m) (now cells) j (now cells) ⌝ }
+    ensures { λ _. ⌜ Filled (patternOf (now (word .entry)) m) (now (cells .entry)) (j + k) (now (cells .exit)) ⌝ }
+{
+    let mut x = load::word_at(word, Place(j));
+    let mut r = 0u32;
+    while r < k {
+        let v = (x >> 56) as usize;
+        let i = j + r;
+        cells[256 + i as usize] = cells[v];
+        cells[v] = (i + 1) as u64;
+        x = x << 1;
+        r += 1;
+    }
+}
+
+// Enters the indices of the places of a step from a mark 8 b + 1 on, 56 by one load.
 pub fn prepare(word: &[u8], m: u32, cells: &mut [u64])
     requires { ⌜ GoodPattern Method.Skip (patternOf (now word) m) ⌝ }
     requires { ⌜ cellsFor Method.Skip m ≤ length (now cells) ⌝ }
@@ -39,13 +59,11 @@ pub fn prepare(word: &[u8], m: u32, cells: &mut [u64])
     clear(cells);
     let count = (m + 1) / 8 * 8 - 8;
     let mut j = 0u32;
-    while j < count {
-        let v = load::byte_at(word, Place(j));
-        let k = j as usize;
-        cells[256 + k] = cells[v as usize];
-        cells[v as usize] = (j + 1) as u64;
-        j += 1;
+    while j + 56 < count {
+        enter(word, m, j, 56, cells);
+        j += 56;
     }
+    enter(word, m, j, count - j, cells);
 }
 
 // The head of v's chain without the indices from k on.

@@ -10,7 +10,7 @@ use Rattle.bits.specs.Packed.{bitsAt}
 use Rattle.bits.proofs.Run.{bits-lt}
 use Rattle.hash.specs.HashMoves.{Entered}
 use Rattle.matcher.specs.Progress.{patternOf}
-use Rattle.hash.proofs.Shifted.{shifted, shifted-none, shifted-first, shifted-more}
+use Rattle.matcher.proofs.Shifted.{shifted, shifted-none, shifted-first, shifted-more}
 use Rattle.hash.proofs.HashTables.{entered-more}
 use Rattle.hash.proofs.enter.Statement.{statement}
 use Rattle.hash.proofs.enter.Tie as tie

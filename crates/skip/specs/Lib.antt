@@ -1,0 +1,2 @@
+-- What the contracts of the method's own functions cite.
+pub mod SkipChains
