@@ -539,6 +539,60 @@ static void largest_text(void)
     munmap(text, bytes + page);
 }
 
+/* Lengths that do not fit 32 bits: cut to them each would be 0. The pages that no call touches are never made. */
+static void lengths_of_33_bits(void)
+{
+    const size_t length = (size_t)1 << 32, all = length * sizeof(uint64_t);
+    static uint64_t scratch[MITONGORY_SCRATCH_CELLS], answer[4];
+    static uint32_t list[2], paper[] = {0, 6, 12};
+    static uint8_t target[4];
+    uint8_t *bytes;
+    uint32_t *cells;
+    uint64_t *wide;
+    void *huge = mmap(NULL, all, PROT_READ | PROT_WRITE, MAP_PRIVATE | MAP_ANONYMOUS | MAP_NORESERVE, -1, 0);
+    what = "a length of 33 bits";
+    if (huge == MAP_FAILED) {
+        fprintf(stderr, "boundary: no address space for lengths of 33 bits; these checks are left out\n");
+        return;
+    }
+    bytes = huge;
+    cells = huge;
+    wide = huge;
+#define SEARCH(text, text_len, word, word_len, list, list_len, scratch, scratch_len, answer, answer_len)                   \
+    mitongory_search(text, text_len, 36, word, word_len, 10, MITONGORY_HASH, 0, UINT32_MAX, list, list_len, scratch,       \
+                     scratch_len, answer, answer_len)
+    memcpy(bytes, r1, sizeof r1);
+    check(SEARCH(bytes, length, v1, 2, list, 2, scratch, MITONGORY_SCRATCH_CELLS, answer, 4) == MITONGORY_OK, "text");
+    check(answer[1] == 1 && list[0] == 11, "the place with that text");
+    check(mitongory_eight_bits(bytes, length, 36, 11, answer, 1) == MITONGORY_OK && answer[0] == 0x4d, "bytes");
+    memset(bytes, 0, sizeof r1);
+    memcpy(bytes, v1, sizeof v1);
+    check(SEARCH(r1, 5, bytes, length, list, 2, scratch, MITONGORY_SCRATCH_CELLS, answer, 4) == MITONGORY_OK, "word");
+    check(answer[1] == 1 && list[0] == 11, "the place with that word");
+    check(mitongory_hash_value(bytes, length, 10, 0x34, answer, 1) == MITONGORY_OK && answer[0] == 0, "word of H");
+    check(SEARCH(r1, 5, v1, 2, cells, length, scratch, MITONGORY_SCRATCH_CELLS, answer, 4) == MITONGORY_OK, "list");
+    check(answer[1] == 1 && cells[0] == 11 && cells[1] == 0, "the place in that list");
+    check(SEARCH(r1, 5, v1, 2, list, 2, wide, length, answer, 4) == MITONGORY_OK && wide[MITONGORY_SCRATCH_CELLS] == 0,
+          "scratch");
+    memset(wide, 0, MITONGORY_SCRATCH_CELLS * sizeof(uint64_t));
+    check(SEARCH(r1, 5, v1, 2, list, 2, scratch, MITONGORY_SCRATCH_CELLS, wide, length) == MITONGORY_OK, "answer");
+    check(wide[0] == 5 && wide[1] == 1 && wide[2] == 27 && wide[3] == 0 && wide[4] == 0, "what that answer holds");
+#undef SEARCH
+    memset(wide, 0, 4 * sizeof(uint64_t));
+    check(mitongory_list_size(cells, length, answer, 1) == MITONGORY_LIST_NOT_RISING, "list of zeros, its size");
+    check(mitongory_list_write(cells, length, target, 4, answer, 1) == MITONGORY_LIST_NOT_RISING, "list of zeros, its file");
+    check(mitongory_list_write(paper, 3, bytes, length, answer, 1) == MITONGORY_OK && answer[0] == 4, "target");
+    check(memcmp(bytes, "\x03\x00\x05\x05\x00", 5) == 0, "what that target holds");
+    check(mitongory_list_read(bytes, length, list, 2, answer, 1) == MITONGORY_CELLS_MISSING, "file of three positions");
+    memcpy(bytes, "\x01\x05\x00\x00", 4);
+    check(mitongory_list_read(bytes, length, list, 2, answer, 1) == MITONGORY_BYTES_LEFT_OVER, "file of one position");
+    memset(bytes, 0, 4);
+    check(mitongory_list_read((const uint8_t *)"\x01\x05", 2, cells, length, answer, 1) == MITONGORY_OK && answer[0] == 1,
+          "cells");
+    check(cells[0] == 5 && cells[1] == 0, "what those cells hold");
+    munmap(huge, all);
+}
+
 /* Drawn texts and words, on both sides: the places by every method that takes the word are those of the plain search. */
 static void drawn_searches(void)
 {
@@ -563,23 +617,30 @@ static void drawn_searches(void)
         }
         count = every_place(text, n, word, m, places);
         for (k = MITONGORY_PLAIN; k <= MITONGORY_WIDE; k++) {
-            uint32_t list[8 * MOST] = {0};
-            uint64_t answer[4] = {0, 0, 0, 0}, E = m <= n ? n - m + 1 : 0;
+            uint64_t *told, E = m <= n ? n - m + 1 : 0;
+            size_t cells = count + round % 3;
             int side = (int)(round % 2), short_word = (k == MITONGORY_HASH && m < 8) || (k == MITONGORY_SKIP && m < 15);
             struct lent t = lend((n + 7) / 8, text, (enum side)side, 0);
             struct lent w = lend((m + 7) / 8, word, (enum side)side, 0);
+            struct lent list = lend(cells * sizeof(uint32_t), NULL, (enum side)side, 1);
             struct lent scratch = lend(MITONGORY_SCRATCH_CELLS * sizeof(uint64_t), NULL, (enum side)side, 1);
-            uint32_t r = mitongory_search(at(&t), (n + 7) / 8, n, at(&w), (m + 7) / 8, m, k, 0, UINT32_MAX, list, 8 * MOST,
-                                          at(&scratch), MITONGORY_SCRATCH_CELLS, answer, 4);
+            struct lent answer = lend(4 * sizeof(uint64_t), NULL, (enum side)side, 1);
+            uint32_t r = mitongory_search(at(&t), (n + 7) / 8, n, at(&w), (m + 7) / 8, m, k, 0, UINT32_MAX, at(&list), cells,
+                                          at(&scratch), MITONGORY_SCRATCH_CELLS, at(&answer), 4);
             what = "drawn input";
             check(r == (short_word ? MITONGORY_WORD_TOO_SHORT : MITONGORY_OK), "result");
             if (r == MITONGORY_OK) {
-                check(answer[1] == count && memcmp(list, places, count * sizeof(uint32_t)) == 0, "places");
-                check(answer[2] == E && answer[3] == MITONGORY_DONE && answer[0] <= E, "answer");
+                told = at(&answer);
+                check(holds(&list, places, count * sizeof(uint32_t)), "places");
+                check(told[0] <= E && told[1] == count && told[2] == E && told[3] == MITONGORY_DONE, "answer");
+            } else {
+                check(stays(&list) && stays(&answer) && stays(&scratch), "buffers of a refused call");
             }
             give_back(&t);
             give_back(&w);
+            give_back(&list);
             give_back(&scratch);
+            give_back(&answer);
         }
 #undef DRAW
     }
@@ -703,6 +764,7 @@ int main(void)
     refused_searches();
     pointers();
     largest_text();
+    lengths_of_33_bits();
     drawn_searches();
     hash_values();
     eights();

@@ -1,6 +1,6 @@
--- The promise of the search call for C leaves nothing open, and where the method is known and there are four answer cells it is the
--- promise of the library's search call; so the theorem about every list of calls (`whole` of the search crate) is about
--- calls from C too.
+-- The promise of the search call for C leaves nothing open. Where the method is known and there are four answer cells it
+-- is the promise of the library's search call; so the theorem about every list of calls (`whole` of the search crate) is
+-- about calls from C too.
 -- Assumes nothing.
 use Prim.Native.Nat.{ℕ, _≤_}
 use mathlib.Core.Path.{_≡_, sym, _∙_}
