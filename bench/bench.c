@@ -14,7 +14,7 @@ int main(int count, char **args) {
     const char *mode = count > 1 ? args[1] : "";
     long number = count > 2 ? atol(args[2]) : 0;
     int all = !strcmp(mode, "all"), known = all;
-    if (!strcmp(mode, "check")) return check(number ? number : 300);
+    if (!strcmp(mode, "check")) return check(number ? number : 100);
     if (all || !strcmp(mode, "texts")) {
         printf("\n## Searches\n\nNanoseconds for each bit of the text.\n");
         known = 1, time_texts(number ? (int)number : 27);
