@@ -236,7 +236,7 @@ pub fn advance(
     requires { ⌜ (s .0 ≤ places (textOf (now text) n) (patternOf (now word) m)) × (had ≤ length (now list)) ⌝ }
     ensures { λ r. ⌜ Advanced Method.Skip (textOf (now (text .entry)) n) (patternOf (now (word .entry)) m) (s .0) budget (now (list .entry)) had (r .at .0) (r .steps) (r .hits) (r .full) (now (list .exit)) ⌝ }
 {
-    let end = n + 1 - m;
+    let end = n - m + 1;
     let stride = (m + 1) / 8 - 1;
     let mut at = s.0;
     if at % 8 != 1 {
@@ -253,6 +253,7 @@ pub fn advance(
     while at < end && steps < budget {
         let link = cells[text[b as usize] as usize];
         at = 8 * b + 1;
+        steps += 1;
         if link != 0 {
             let found = chain(
                 text,
@@ -271,14 +272,13 @@ pub fn advance(
                 let stop = found.at;
                 return Advance {
                     at: stop,
-                    steps: steps + 1,
+                    steps: steps,
                     hits: hits,
                     full: found.full,
                 };
             }
         }
         b += stride;
-        steps += 1;
     }
     Advance {
         at: Place(cut(at, end)),

@@ -50,11 +50,11 @@ due c =
     let s = c .before .before .before .before .before .before .before in
     (omega arith, ltb-false (s .args .m) 15 (s .pre .0 .pattern .fit))
 
-add-end : tie.Need-add-end Inv-loop μ-loop
-add-end c = omega (arith, ltb-false)
-
 sub-end : tie.Need-sub-end Inv-loop μ-loop
 sub-end c = omega (arith, ltb-false)
+
+add-end : tie.Need-add-end Inv-loop μ-loop
+add-end c = omega (arith, ltb-false)
 
 add-stride : tie.Need-add-stride Inv-loop μ-loop
 add-stride c = omega (arith, ltb-false)
@@ -104,6 +104,9 @@ mul-at c = omega (arith, ltb-false)
 add-at : tie.Need-add-at Inv-loop μ-loop
 add-at c = omega (arith, ltb-false)
 
+add-steps : tie.Need-add-steps Inv-loop μ-loop
+add-steps c = omega (arith, ltb-true)
+
 cast-t34 : tie.Need-cast-t34 Inv-loop μ-loop
 cast-t34 c = omega (arith, ltb-false)
 
@@ -117,9 +120,6 @@ chain-requires c κs =
     let room = l .inv .2 .writing in
     let size = writing-length _ _ _ _ _ room in
     (s .pre .0, (s .pre .1 .0, ((omega (arith, span), omega (arith, d), omega (arith, size, room .fits)), head k)))
-
-add-t39 : tie.Need-add-t39 Inv-loop μ-loop
-add-t39 c = omega (arith, ltb-true)
 
 -- a place has no cell
 stopped : tie.Need-returns-2 Inv-loop μ-loop
@@ -141,9 +141,6 @@ returns-2 c = stopped c
 
 add-b-2 : tie.Need-add-b-2 Inv-loop μ-loop
 add-b-2 c = omega (arith, ltb-false)
-
-add-steps : tie.Need-add-steps Inv-loop μ-loop
-add-steps c = omega (arith, ltb-true)
 
 loop-less : tie.Need-loop-less Inv-loop μ-loop
 loop-less c = omega (arith, ltb-true)
@@ -180,7 +177,7 @@ returns-3 : tie.Need-returns-3 Inv-loop μ-loop
 returns-3 c =
     let s = c .before .before .before .before .before .before .before .before in
     let a = s .args in
-    let end : a .n + 1 - a .m ≡ places (textOf (now (a .text)) (a .n)) (patternOf (now (a .word)) (a .m)) = omega arith in
+    let end : a .n - a .m + 1 ≡ places (textOf (now (a .text)) (a .n)) (patternOf (now (a .word)) (a .m)) = omega arith in
     rw (c .cut .ensures, end) (c .before .before .loop .inv .2)
 
 pub advance-spec : {M : Type 1} → statement M
@@ -189,8 +186,8 @@ advance-spec =
     (tie.spec
     Inv-loop
     μ-loop
-    add-end
     sub-end
+    add-end
     add-stride
     sub-stride
     returns
@@ -204,13 +201,12 @@ advance-spec =
     shared-slice-read-link-2
     mul-at
     add-at
+    add-steps
     cast-t34
     chain-requires
-    add-t39
     same-length
     returns-2
     add-b-2
-    add-steps
     loop-less
     loop-again
     cut-requires
