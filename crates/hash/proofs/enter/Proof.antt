@@ -1,11 +1,10 @@
 -- `hash::enter` meets its contract. The loop's invariant: r moves are entered, and the load is shifted by r bits.
 -- Assumes nothing.
 use borrow.Author.Needs.{needs}
-use mathlib.Core.Path.{_≡_, sym, ap, _∙_}
+use mathlib.Core.Path.{_≡_, ap, _∙_}
 use Prim.Native.Nat.{ℕ, _+_, _-_, _*_, _/_, _%_, _^_, _≤_, _<_}
 use native.Mathlib.Omega.{arith}
 use denote.Ref.{now}
-use lib.ListN.{length}
 use Rattle.bits.specs.Packed.{bitsAt}
 use Rattle.bits.proofs.Run.{bits-lt}
 use Rattle.hash.specs.HashMoves.{Entered}
