@@ -38,7 +38,9 @@ shared-slice-read-if1-2 : tie.Need-shared-slice-read-if1-2 Inv-loop μ-loop
 shared-slice-read-if1-2 c = search needs
 
 returns : tie.Need-returns Inv-loop μ-loop
-returns c = (omega arith, omega arith, c .before .before .before .before .loop .inv .2, λ h. eq-eqb _ _ (c .if1 .taken))
+returns c =
+    let l = c .before .before .before .before .loop in
+    (omega arith, omega arith, λ i g u. l .inv .2 i g (omega arith), λ h. eq-eqb _ _ (c .if1 .taken))
 
 add-i : tie.Need-add-i Inv-loop μ-loop
 add-i c = search needs
