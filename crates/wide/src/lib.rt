@@ -351,8 +351,8 @@ pub fn step(
     settle(text, n, word, m, h, s, to, stop, flags, list, had)
 }
 
-// Many steps with their list, until the budget or the cells are used up or no place is left. Both moves are made once for all of
-// them.
+// Many steps with their list, until the budget is used up, a hit finds no free cell, or no place is left. Both moves are
+// made once for all of them.
 pub fn advance(
     text: &[u8],
     n: u32,
