@@ -2,3 +2,4 @@
 pub mod Telling
 pub mod Calling
 pub mod Answers
+pub mod CallList

@@ -4,4 +4,5 @@ pub mod Told
 pub mod Scan
 pub mod EightBits
 pub mod ListFile
+pub mod CallList
 pub mod Inner
