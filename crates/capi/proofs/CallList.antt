@@ -1,11 +1,11 @@
 -- Every list of search calls from C: each call is a call of the library's search or was refused with 100 or 101, so the
 -- theorem about every list of calls of the library (`whole` of the search crate) gives the claim in what C sees.
 -- Assumes nothing.
-use Prim.Native.Nat.{ℕ, _<_}
+use Prim.Native.Nat.{ℕ, _≤_, _<_}
 use mathlib.Core.Path.{_≡_, refl, sym, _∙_, ap}
 use mathlib.Core.Bool.{Bool, true, false}
 use mathlib.Core.Logic.{_↔_, _⊎_, inl, inr}
-use mathlib.Core.List.{List, [], _∷_}
+use mathlib.Core.List.{List, [], _∷_, List·Memᴰ, List·Memᴰ·head, List·Memᴰ·tail, List·Memᴰ·not-nil, List·Memᴰ·cases-cons}
 use mathlib.Core.Option.{Option, none, some}
 use native.Mathlib.Omega.{arith}
 use lib.Dec.{ltb, eqb}
@@ -25,7 +25,7 @@ use Rattle.search.proofs.Calls as theorem
 use Rattle.capi.specs.Told.{Tells}
 use Rattle.capi.specs.Scan.{Named, known, unknown, methodNamed, stopNumber, requestOf, searchVerdict, Searches}
 use Rattle.capi.specs.Inner.{outcomeTells}
-use Rattle.capi.specs.CallList.{Made, callOf, markAfter, placesIn, stopIn, AllMade, lastMark, joined, later, lastStop, Whole}
+use Rattle.capi.specs.CallList.{Made, callOf, markAfter, placesIn, stepsIn, stopIn, AllMade, lastMark, joined, allSteps, fullOf, fulls, later, lastStop, Whole}
 use Rattle.capi.proofs.Answers.{as-searched}
 
 -- a way to stop by its number
@@ -48,6 +48,7 @@ module _ (t : Packed) (w : Pattern) (s : ℕ) (c : Made) where
   record Skipped : Type 0 where
     mark : markAfter s c ≡ s
     places : placesIn c ≡ []
+    steps : stepsIn c ≡ 0
     stop : stopIn c ≡ none
 
   -- the call of the library that it is
@@ -56,10 +57,12 @@ module _ (t : Packed) (w : Pattern) (s : ℕ) (c : Made) where
     searched : Searched (library.requestOf t w s call) (call .outcome) (call .list-after) (call .scratch-after)
     mark : markAfter s c ≡ library.markOf s (call .outcome)
     places : placesIn c ≡ library.placesOf (call .outcome) (call .list-after)
+    steps : stepsIn c ≡ library.stepsOf (call .outcome)
     stop : stopIn c ≡ stopNumbers (library.stopOf (call .outcome))
+    budget : call .budget ≡ c .budget
 
   skipped : eqb (c .result) 0 ≡ false → Skipped
-  skipped e = record { mark = rw e refl; places = rw e refl; stop = rw e refl }
+  skipped e = record { mark = rw e refl; places = rw e refl; steps = rw e refl; stop = rw e refl }
 
   module _ (x : Method) where
     made : Outcome → library.Call
@@ -83,7 +86,9 @@ module _ (t : Packed) (w : Pattern) (s : ℕ) (c : Made) where
           searched = p;
           mark = rw (h .result-is, h .answer-is) refl;
           places = rw (h .result-is, h .answer-is) refl;
+          steps = rw (h .result-is, h .answer-is) refl;
           stop = rw (h .result-is, h .answer-is) refl;
+          budget = refl;
         }
     taken (Refused y) p h =
         record {
@@ -91,7 +96,9 @@ module _ (t : Packed) (w : Pattern) (s : ℕ) (c : Made) where
           searched = p;
           mark = rw (h .result-is, not-zero y) refl;
           places = rw (h .result-is, not-zero y) refl;
+          steps = rw (h .result-is, not-zero y) refl;
           stop = rw (h .result-is, not-zero y) refl;
+          budget = refl;
         }
 
   each : Searches (callOf t w s c) (c .result) (c .list-after) (c .scratch-after) (c .answer-after) → Skipped ⊎ Taken
@@ -105,9 +112,22 @@ module _ (t : Packed) (w : Pattern) (s : ℕ) (c : Made) where
       cells x e false h =
           let a = as-searched (callOf t w s c) x _ _ _ _ e (ltb-false (length (c .answer)) 4 h) p in
           inr (taken x (a .outcome) (a .searched) (a .tells))
+
       by : (n : Named) → methodNamed (c .method) ≡ n → Skipped ⊎ Taken
       by unknown e = let told = rw e at (p .tells .result-is) in inl (skipped (rw told refl))
       by (known x) e = cells x e (ltb (length (c .answer)) 4) refl
+
+-- the call of the library, among these, that a call from C is
+record Among (calls : List library.Call) (c : Made) : Type 0 where
+  call : library.Call
+  member : List·Memᴰ call calls
+  steps : stepsIn c ≡ library.stepsOf (call .outcome)
+  stop : stopIn c ≡ stopNumbers (library.stopOf (call .outcome))
+  budget : call .budget ≡ c .budget
+
+-- it is one of them, or was refused before there was a search
+abbrev Kept : List library.Call → Made → Type 0
+Kept calls c = ((stepsIn c ≡ 0) × (stopIn c ≡ none)) ⊎ Among calls c
 
 -- the calls of the library that a list of calls from C is
 record Same (t : Packed) (w : Pattern) (s : ℕ) (cs : List Made) : Type 0 where
@@ -115,7 +135,10 @@ record Same (t : Packed) (w : Pattern) (s : ℕ) (cs : List Made) : Type 0 where
   made : library.Made t w s calls
   mark : lastMark s cs ≡ library.lastMark s calls
   places : joined cs ≡ library.joined calls
+  steps : allSteps cs ≡ library.allSteps calls
+  fulls-are : fulls cs ≡ library.fulls calls
   stop : lastStop cs ≡ stopNumbers (library.lastStop calls)
+  each-is : (c : Made) → List·Memᴰ c cs → Kept calls c
 
 later-none : (e : Option ℕ) → later none e ≡ e
 later-none none = refl
@@ -125,11 +148,50 @@ later-numbers : (e l : Option Ending) → later (stopNumbers e) (stopNumbers l) 
 later-numbers e none = refl
 later-numbers e (some l) = refl
 
+full-numbers : (o : Option Ending) → fullOf (stopNumbers o) ≡ library.fullOf o
+full-numbers none = refl
+full-numbers (some done) = refl
+full-numbers (some spent) = refl
+full-numbers (some (full p)) = refl
+
+wider : (calls : List library.Call) (call : library.Call) (c : Made) → Kept calls c → Kept (call ∷ calls) c
+wider calls call c (inl k) = inl k
+wider calls call c (inr a) =
+    inr (record { call = a .call; member = List·Memᴰ·tail (a .member); steps = a .steps; stop = a .stop; budget = a .budget })
+
 same : (t : Packed) (w : Pattern) (cs : List Made) (s : ℕ) → AllMade t w s cs → Same t w s cs
-unfolding lastMark joined lastStop library.lastMark library.joined library.lastStop
-same t w [] s m = record { calls = []; made = tt; mark = refl; places = refl; stop = refl }
+unfolding lastMark joined allSteps fulls lastStop library.lastMark library.joined library.allSteps library.fulls library.lastStop
+same t w [] s m =
+    record {
+      calls = [];
+      made = tt;
+      mark = refl;
+      places = refl;
+      steps = refl;
+      fulls-are = refl;
+      stop = refl;
+      each-is = λ c i. absurd (List·Memᴰ·not-nil i);
+    }
 same t w (c ∷ cs) s m = go (same t w cs) (each t w s c (m .0))
   where
+    pick : {calls : List library.Call} (d : Made) → Skipped t w s c → (List·Memᴰ d cs → Kept calls d)
+        → (d ≡ c) ⊎ List·Memᴰ d cs → Kept calls d
+    pick d k f (inl e) = inl (rw e (k .steps), rw e (k .stop))
+    pick d k f (inr i) = f i
+
+    choose : (d : Made) (k : Taken t w s c) (calls : List library.Call) → (List·Memᴰ d cs → Kept calls d)
+        → (d ≡ c) ⊎ List·Memᴰ d cs → Kept (k .call ∷ calls) d
+    choose d k calls f (inl e) =
+        inr
+        (record {
+          call = k .call;
+          member = List·Memᴰ·head refl;
+          steps = rw e (k .steps);
+          stop = rw e (k .stop);
+          budget = rw e (k .budget);
+        })
+    choose d k calls f (inr i) = wider calls (k .call) d (f i)
+
     go : ((s′ : ℕ) → AllMade t w s′ cs → Same t w s′ cs) → Skipped t w s c ⊎ Taken t w s c → Same t w s (c ∷ cs)
     go ih (inl k) =
         let r = ih s (rw (k .mark) at (m .1)) in
@@ -138,7 +200,10 @@ same t w (c ∷ cs) s m = go (same t w cs) (each t w s c (m .0))
           made = r .made;
           mark = rw (k .mark) (r .mark);
           places = rw (k .places) (r .places);
+          steps = rw (k .steps) (omega (arith, r .steps));
+          fulls-are = rw (k .stop) (omega (arith, r .fulls-are));
           stop = rw (k .stop) (later-none (lastStop cs) ∙ r .stop);
+          each-is = λ d i. pick d k (r .each-is d) (List·Memᴰ·cases-cons i);
         }
     go ih (inr k) =
         let r = ih (library.markOf s (k .call .outcome)) (rw (k .mark) at (m .1)) in
@@ -147,7 +212,10 @@ same t w (c ∷ cs) s m = go (same t w cs) (each t w s c (m .0))
           made = (k .searched, r .made);
           mark = rw (k .mark) (r .mark);
           places = rw (k .places, r .places) refl;
+          steps = rw (k .steps, r .steps) refl;
+          fulls-are = rw (k .stop, r .fulls-are, full-numbers (library.stopOf (k .call .outcome))) refl;
           stop = rw (k .stop, r .stop) (later-numbers (library.stopOf (k .call .outcome)) (library.lastStop (r .calls)));
+          each-is = λ d i. choose d k (r .calls) (r .each-is d) (List·Memᴰ·cases-cons i);
         }
 
 -- stop number 0 is done
@@ -155,6 +223,30 @@ done-zero : (e : Ending) → (stopNumber e ≡ 0) ↔ (e ≡ done)
 done-zero done = (λ h. refl, λ h. refl)
 done-zero spent = (λ h. absurd (omega arith), λ h. absurd (omega (arith, ap stopNumber h)))
 done-zero (full p) = (λ h. absurd (omega arith), λ h. absurd (omega (arith, ap stopNumber h)))
+
+is-spent : (o : Option Ending) → stopNumbers o ≡ some 2 → o ≡ some spent
+is-spent none h = let z : _≡_ {A = ℕ} 0 1 = cc in absurd (omega arith)
+is-spent (some done) h = let z : _≡_ {A = ℕ} 0 2 = cc in absurd (omega arith)
+is-spent (some spent) h = refl
+is-spent (some (full p)) h = let z : _≡_ {A = ℕ} 1 2 = cc in absurd (omega arith)
+
+-- the claims about each call, from those about the library's
+module _ (t : Packed) (w : Pattern) (calls : List library.Call) (all : library.Whole t w calls) (c : Made) where
+  spent-by : stopIn c ≡ some 2 → Kept calls c → stepsIn c ≡ c .budget
+  spent-by h (inl k) = let none-is = k .1 in let z : _≡_ {A = ℕ} 0 1 = cc in absurd (omega arith)
+  spent-by h (inr a) = a .steps ∙ all .spent-all (a .call) (a .member) (is-spent _ (sym (a .stop) ∙ h)) ∙ a .budget
+
+  within-by : Kept calls c → stepsIn c ≤ c .budget
+  within-by (inl k) = rw (k .0) (omega arith)
+  within-by (inr a) = rw (a .steps, ← a .budget) (all .within (a .call) (a .member))
+
+finished-by : {n k : ℕ} (l : Option Ending) → ((e : Ending) → l ≡ some e → (e ≡ done) ↔ (n < k)) → (e : ℕ)
+    → stopNumbers l ≡ some e → (e ≡ 0) ↔ (n < k)
+finished-by none f e h = let z : _≡_ {A = ℕ} 0 1 = cc in absurd (omega arith)
+finished-by (some l) f e h =
+    let i = f l refl in
+    let is : stopNumber l ≡ e = cc in
+    rw (sym is) (λ z. i .0 (done-zero l .0 z), λ u. done-zero l .1 (i .1 u))
 
 -- The theorem: every list of calls from C, the first from mark 0.
 pub whole : (t : Packed) (w : Pattern) (calls : List Made) → AllMade t w 0 calls → Whole t w calls
@@ -165,13 +257,8 @@ whole t w calls m =
       places-are = rw (r .places, r .mark) (all .places-are);
       rising = rw (r .places) (all .rising);
       exactly = λ p. rw (r .places, r .mark) (all .exactly p);
-      finished = λ e h. rw (r .mark) (go (library.lastStop (r .calls)) (all .finished) e (sym (r .stop) ∙ h));
+      finished = λ e h. rw (r .mark) (finished-by (library.lastStop (r .calls)) (all .finished) e (sym (r .stop) ∙ h));
+      spent-all = λ c i h. spent-by t w (r .calls) all c h (r .each-is c i);
+      within = λ c i. within-by t w (r .calls) all c (r .each-is c i);
+      bounded = rw (r .steps, r .mark, r .fulls-are) (all .bounded);
     }
-  where
-    go : {n : ℕ} (l : Option Ending) → ((e : Ending) → l ≡ some e → (e ≡ done) ↔ (t .count < n)) → (e : ℕ)
-        → stopNumbers l ≡ some e → (e ≡ 0) ↔ (t .count < n)
-    go none f e h = let z : _≡_ {A = ℕ} 0 1 = cc in absurd (omega arith)
-    go (some l) f e h =
-        let i = f l refl in
-        let is : stopNumber l ≡ e = cc in
-        rw (sym is) (λ z. i .0 (done-zero l .0 z), λ u. done-zero l .1 (i .1 u))

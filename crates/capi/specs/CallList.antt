@@ -1,6 +1,6 @@
 -- A list of search calls as C makes them, on one text and one word; and the claim about every such list in what C sees:
 -- results, answer cells and the fronts of the lists (demand 3).
-use Prim.Native.Nat.{ℕ, _+_, _<_}
+use Prim.Native.Nat.{ℕ, _+_, _≤_, _<_}
 use mathlib.Core.Path.{_≡_}
 use mathlib.Core.Bool.{cond}
 use mathlib.Core.Logic.{_↔_}
@@ -57,6 +57,10 @@ markAfter s c = ifAccepted c (cell 2 c) s
 abbrev pub placesIn : Made → List ℕ
 placesIn c = ifAccepted c (take (cell 1 c) (c .list-after)) []
 
+-- the steps that the call made: the first answer cell
+abbrev pub stepsIn : Made → ℕ
+stepsIn c = ifAccepted c (cell 0 c) 0
+
 -- how an accepted call stopped: the fourth answer cell
 abbrev pub stopIn : Made → Option ℕ
 stopIn c = ifAccepted c (some (cell 3 c)) none
@@ -68,7 +72,8 @@ AllMade t w s (c ∷ cs) =
     Searches (callOf t w s c) (c .result) (c .list-after) (c .scratch-after) (c .answer-after)
     × AllMade t w (markAfter s c) cs
 
--- the mark left after all calls, the places that they wrote, and how the last accepted one stopped
+-- the mark left after all calls, the places that they wrote, their steps, how many stopped with 1, full, and how the last
+-- accepted one stopped
 unfoldable pub lastMark : ℕ → List Made → ℕ
 lastMark s [] = s
 lastMark s (c ∷ cs) = lastMark (markAfter s c) cs
@@ -76,6 +81,18 @@ lastMark s (c ∷ cs) = lastMark (markAfter s c) cs
 unfoldable pub joined : List Made → List ℕ
 joined [] = []
 joined (c ∷ cs) = placesIn c ++ joined cs
+
+unfoldable pub allSteps : List Made → ℕ
+allSteps [] = 0
+allSteps (c ∷ cs) = stepsIn c + allSteps cs
+
+abbrev pub fullOf : Option ℕ → ℕ
+fullOf none = 0
+fullOf (some stop) = cond (eqb stop 1) 1 0
+
+unfoldable pub fulls : List Made → ℕ
+fulls [] = 0
+fulls (c ∷ cs) = fullOf (stopIn c) + fulls cs
 
 abbrev pub later : Option ℕ → Option ℕ → Option ℕ
 later e none = e
@@ -85,10 +102,14 @@ unfoldable pub lastStop : List Made → Option ℕ
 lastStop [] = none
 lastStop (c ∷ cs) = later (stopIn c) (lastStop cs)
 
--- The joined places are all occurrences before the last mark, rising, each once; and the last accepted call stopped with 0,
--- done, just if the word no longer fits from the last mark on.
+-- The joined places are all occurrences before the last mark, rising, each once; the last accepted call stopped with 0,
+-- done, just if the word no longer fits from the last mark on; a call that stopped with 2, spent, made all the steps of its
+-- budget, and no call made more; and the steps in all are at most the last mark and the calls that stopped with full.
 pub record Whole (t : Packed) (w : Pattern) (calls : List Made) : Type 0 where
   pub places-are : joined calls ≡ occurrences t w 0 (lastMark 0 calls)
   pub rising : Rising (joined calls)
   pub exactly : (p : ℕ) → List·Memᴰ p (joined calls) ↔ (Occurs t w p × (p < lastMark 0 calls))
   pub finished : (e : ℕ) → lastStop calls ≡ some e → (e ≡ 0) ↔ (t .count < lastMark 0 calls + w .count)
+  pub spent-all : (c : Made) → List·Memᴰ c calls → stopIn c ≡ some 2 → stepsIn c ≡ c .budget
+  pub within : (c : Made) → List·Memᴰ c calls → stepsIn c ≤ c .budget
+  pub bounded : allSteps calls ≤ lastMark 0 calls + fulls calls
