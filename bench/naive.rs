@@ -76,7 +76,14 @@ fn read(file: &[u8], cells: &mut [u32]) -> Option<usize> {
 /// # Safety
 /// The pointers have the bytes of n and m bits, and cells for every hit.
 #[no_mangle]
-pub unsafe extern "C" fn naive_search(t: *const u8, n: usize, w: *const u8, m: usize, list: *mut u32, cells: usize) -> usize {
+pub unsafe extern "C" fn naive_search(
+    t: *const u8,
+    n: usize,
+    w: *const u8,
+    m: usize,
+    list: *mut u32,
+    cells: usize,
+) -> usize {
     let (text, word) = (slice::from_raw_parts(t, n.div_ceil(8)), slice::from_raw_parts(w, m.div_ceil(8)));
     search(text, n, word, m, slice::from_raw_parts_mut(list, cells))
 }

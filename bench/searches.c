@@ -49,12 +49,13 @@ static void sum(void *of, int contender) {
     }
 }
 
-static void compare(const struct job *job) {
+// Where the lists were summed up, they are compared too; those of the naive loop in the first eighth.
+static void compare(const struct job *job, int summed) {
     for (int i = 0; i < METHODS; i++) {
         int c = METHODS + i;
         if (!takes(i, job->m)) continue;
         if (memcmp(job->answers + i, job->answers + c, sizeof *job->answers) || job->sums[i][0] != job->sums[c][0] ||
-            job->sums[i][1] != job->sums[LOOP][0]) {
+            (summed && job->sums[i][1] != job->sums[LOOP][0])) {
             printf("%s, n %zu, m %zu: the answers differ\n", method_names[i], job->n, job->m);
             exit(1);
         }
@@ -65,7 +66,7 @@ static void compare(const struct job *job) {
 static void measure(struct job *job, double seconds, double *sums) {
     double best[CONTENDERS];
     least((struct race){search, sum, job, CONTENDERS}, seconds, 5, best);
-    compare(job);
+    compare(job, 1);
     for (int i = 0; i < CONTENDERS; i++) sums[i] += best[i] / (i == LOOP ? job->n / 8 : job->n);
 }
 
@@ -157,6 +158,7 @@ void time_short(void) {
         draw_word(w, lengths[k], t, 8 * sizeof t);
         struct job job = {.t = t, .w = w, .n = 8 * sizeof t, .m = lengths[k], .cells = 16, .list = list};
         least((struct race){search_shortly, 0, &job, 2 * METHODS}, 4, 40, best);
+        compare(&job, 0);
         for (int method = 0; method < METHODS; method++)
             printf("| %zu | %s | %.0f | %.0f | %.2f |\n", lengths[k], method_names[method], best[method] / 1000,
                    best[METHODS + method] / 1000, best[method] / best[METHODS + method]);
