@@ -95,7 +95,7 @@ impl fmt::Display for Refusal {
             Refusal::WordLength => "the word has no bit or more than 2,048 bits",
             Refusal::WordBytesMissing => "the word has fewer bytes than its bit count needs",
             Refusal::WordTooShort => "the word is too short: hash takes 8 bits or more, skip 15 or more",
-            Refusal::BeyondEnd => "the place lies beyond the recording's last",
+            Refusal::BeyondEnd => "the mark is above the number of places, or fewer than eight bits follow",
             Refusal::ScratchTooShort => "the scratch has fewer than 4,224 cells",
             Refusal::NotRising => "the positions do not rise strictly below 2^30",
             Refusal::TargetTooShort => "the target is shorter than the list's file",
