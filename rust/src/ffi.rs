@@ -15,7 +15,7 @@ pub const FEW_ANSWER_CELLS: u32 = 101;
 // The library takes a slice as a pointer and a count of elements. Its functions ask nothing of the numbers, and of
 // each slice what a Rust reference gives: a pointer that is not null and is aligned, also for no elements; that many
 // initialised elements; and for a `&mut` slice no other access to them during the call. Nothing checks these
-// declarations against the library: tests/boundary.rs tests them.
+// declarations against the library: tests/library/boundary.rs tests them.
 mod raw {
     extern "C" {
         pub fn mitongory_search(
