@@ -1,9 +1,10 @@
 -- Laws of `encodeNumber`: its first byte and the rest, and how many bytes it has. Whoever uses `encodeNumber` goes by these.
-use Prim.Native.Nat.{ℕ, zero, suc, _+_, _/_, _%_, _≤_, _<_}
+use Prim.Native.Nat.{ℕ, zero, suc, _+_, _*_, _/_, _%_, _^_, _≤_, _<_}
 use mathlib.Core.Path.{_≡_, refl, sym, ap, _∙_}
 use mathlib.Core.Bool.{true}
 use mathlib.Core.List.{List, [], _∷_}
 use native.Mathlib.Omega.{arith}
+use native.Mathlib.Nat.{pow-le-pow-right}
 use native.Mathlib.Decide.{decLt}
 use lib.ListN.{length}
 use lib.Pow.{areBytes}
@@ -69,6 +70,41 @@ size-four n l h = size-more n (omega arith) ∙ ap suc (size-three (n / 128) (om
 
 pub size-five : (n : ℕ) → 268435456 ≤ n → n < 34359738368 → length (encodeNumber n) ≡ 5
 size-five n l h = size-more n (omega arith) ∙ ap suc (size-four (n / 128) (omega arith) (omega arith))
+
+-- a power of two that is at most a number below another power has the smaller exponent
+pub exponent-lt : (j k a : ℕ) → 2 ^ j ≤ a → a < 2 ^ k → j < k
+exponent-lt j k a l h = elim (decLt j k) [
+  | yes g ↦ g
+  | no g ↦
+      let below : k ≤ j = omega arith in
+      let power : 2 ^ k ≤ 2 ^ j = pow-le-pow-right {n = 2} (omega arith) below in
+      absurd (omega arith)
+]
+
+-- One byte for each seven bits: j is the number's bit count, the place of the highest bit of 2 n + 1.
+pub size-by-bits : (n j : ℕ) → n < 2 ^ 32 → 2 ^ j ≤ 2 * n + 1 → 2 * n + 1 < 2 ^ (1 + j) → length (encodeNumber n) ≡ (9 * j + 64) / 64
+size-by-bits n j small l h = elim (decLt n 128) [
+  | yes a ↦ size-one n a ∙ omega (arith, below 8 (omega arith))
+  | no a ↦
+      elim (decLt n 16384) [
+        | yes b ↦ size-two n (omega arith) b ∙ omega (arith, from 8 (omega arith), below 15 (omega arith))
+        | no b ↦
+            elim (decLt n 2097152) [
+              | yes c ↦ size-three n (omega arith) c ∙ omega (arith, from 15 (omega arith), below 22 (omega arith))
+              | no c ↦
+                  elim (decLt n 268435456) [
+                    | yes d ↦ size-four n (omega arith) d ∙ omega (arith, from 22 (omega arith), below 29 (omega arith))
+                    | no d ↦ size-five n (omega arith) (omega arith) ∙ omega (arith, from 29 (omega arith), below 33 (omega arith))
+                  ]
+            ]
+      ]
+]
+  where
+    below : (k : ℕ) → 2 * n + 1 < 2 ^ k → j < k
+    below k g = exponent-lt j k (2 * n + 1) l g
+
+    from : (k : ℕ) → 2 ^ k ≤ 2 * n + 1 → k < 1 + j
+    from k g = exponent-lt k (1 + j) (2 * n + 1) g h
 
 -- ---- each is a byte
 

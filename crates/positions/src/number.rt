@@ -17,23 +17,13 @@ pub(crate) enum Reading {
     Refused(ReadRefusal),
 }
 
-// How many bytes a number takes.
+// How many bytes a number takes: one for each seven bits, with no branch, since the lengths of a list's numbers cannot be
+// predicted. 9 b / 64 is b / 7 rounded down for each bit count b that is asked.
 pub(crate) fn size(n: u32) -> usize
     ensures { λ r. ⌜ (r ≡ length (encodeNumber n)) × (r ≤ 5) ⌝ }
 {
-    if n < 128 {
-        return 1;
-    }
-    if n < 16384 {
-        return 2;
-    }
-    if n < 2097152 {
-        return 3;
-    }
-    if n < 268435456 {
-        return 4;
-    }
-    5
+    let bits = 63 - u64::leading_zeros(2 * n as u64 + 1);
+    ((9 * bits + 64) / 64) as usize
 }
 
 // Stores one byte.
