@@ -87,7 +87,7 @@ enum mitongory_stop {
  * far as the budget of steps and the cells of the list go. A fresh mark is 0; a later call goes on from
  * answer[MITONGORY_MARK]. A place is found whole before n; places may overlap.
  *
- *   text, word   packed bits; bytes behind the last one needed are not looked at
+ *   text, word   packed bits; there may be more bytes than the bit counts need, and what is in them never matters
  *   method       one of enum mitongory_method
  *   list         any length; the places found go to its front, the other cells stay
  *   scratch      at least MITONGORY_SCRATCH_CELLS cells with any content; after an accepted call the first
