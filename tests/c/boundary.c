@@ -331,13 +331,25 @@ static void accepted_searches(void)
 {
     static const uint32_t eleven[] = {11}, three[] = {0, 6, 12}, ones[] = {0, 1, 2};
     static const uint32_t steps1[] = {27, 5, 0, 1}, steps2[] = {7, 2, 1, 1};
+    uint8_t more_text[20], more_word[20];
     struct search q;
     uint32_t k;
+    memset(more_text, 0x4d, sizeof more_text);
+    memcpy(more_text, r1, sizeof r1);
+    memset(more_word, 0xff, sizeof more_word);
+    memcpy(more_word, v1, sizeof v1);
     for (k = MITONGORY_PLAIN; k <= MITONGORY_WIDE; k++) {
         if (k == MITONGORY_SKIP)
             refused("paper 1 by skip", paper1(k), MITONGORY_WORD_TOO_SHORT);
-        else
-            searching("paper 1", paper1(k), MITONGORY_OK, steps1[k], 1, 27, MITONGORY_DONE, eleven);
+        else {
+            q = paper1(k);
+            searching("paper 1", q, MITONGORY_OK, steps1[k], 1, 27, MITONGORY_DONE, eleven);
+            q.text = more_text;
+            q.text_len = sizeof more_text;
+            q.word = more_word;
+            q.word_len = sizeof more_word;
+            searching("more bytes than needed", q, MITONGORY_OK, steps1[k], 1, 27, MITONGORY_DONE, eleven);
+        }
         q = paper2(k);
         q.list_len = 1;
         searching("paper 2 with one cell", q, MITONGORY_OK, steps2[k], 1, 6, MITONGORY_FULL, three);
