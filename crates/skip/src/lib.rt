@@ -1,6 +1,7 @@
 // The skip method: one whole byte of the text decides many places. Cell B, below 256, is the head of the chain of the
 // pattern's indices that show the byte B, highest first; cell 256 + j is the link behind index j. Head and link are one
-// more than an index, and 0 ends the chain.
+// more than an index, and 0 ends the chain. Behind a step the mark is 8 b + 1, b being the byte: `step` makes one step from
+// any mark, through links that keep to its places, and `advance` many from such marks, whose chains are those of the tables.
 use bits::ByteNo;
 use bits::Place;
 use bits::load;

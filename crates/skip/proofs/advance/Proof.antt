@@ -175,10 +175,10 @@ same-length-2 c = writing-length _ _ _ _ _ (c .before .before .loop .inv .2 .wri
 
 returns-3 : tie.Need-returns-3 Inv-loop μ-loop
 returns-3 c =
-    let s = c .before .before .before .before .before .before .before .before in
-    let a = s .args in
-    let end : a .n - a .m + 1 ≡ places (textOf (now (a .text)) (a .n)) (patternOf (now (a .word)) (a .m)) = omega arith in
-    rw (c .cut .ensures, end) (c .before .before .loop .inv .2)
+    let l = c .before .before .loop in
+    let a = c .before .before .before .before .before .before .before .before .args in
+    let mark : c .cut .result ≡ min (l .at) (places (textOf (now (a .text)) (a .n)) (patternOf (now (a .word)) (a .m))) = omega (arith, c .cut .ensures) in
+    rw mark (l .inv .2)
 
 pub advance-spec : {M : Type 1} → statement M
 advance-spec =
