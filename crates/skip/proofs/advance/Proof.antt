@@ -30,6 +30,9 @@ Inv-loop text n word m h cells budget list₀ had end stride at₀ b₀ steps₀
 abbrev μ-loop : tie.MeasureT-loop
 μ-loop text n word m h cells budget list₀ had end stride at₀ b₀ steps₀ hits₀ list at b steps hits = budget - steps
 
+end-is : (n m : ℕ) → n + 1 - m ≡ 1 + n - m
+end-is n m = omega arith
+
 -- the link that is read heads the chain of byte b
 head : (c : tie.After-shared-slice-known5 Inv-loop μ-loop)
     → let a = c .before .before .before .before .before .before .before .before .before .before .args in
@@ -177,7 +180,7 @@ returns-3 : tie.Need-returns-3 Inv-loop μ-loop
 returns-3 c =
     let l = c .before .before .loop in
     let a = c .before .before .before .before .before .before .before .before .args in
-    let mark : c .cut .result ≡ min (l .at) (places (textOf (now (a .text)) (a .n)) (patternOf (now (a .word)) (a .m))) = omega (arith, c .cut .ensures) in
+    let mark : c .cut .result ≡ min (l .at) (places (textOf (now (a .text)) (a .n)) (patternOf (now (a .word)) (a .m))) = c .cut .ensures ∙ ap (min (l .at)) (end-is (a .n) (a .m)) in
     rw mark (l .inv .2)
 
 pub advance-spec : {M : Type 1} → statement M

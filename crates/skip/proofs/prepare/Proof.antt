@@ -1,7 +1,7 @@
 -- `skip::prepare` meets its contract. The loop's invariant: the indices below j are entered.
 -- Assumes nothing.
 use borrow.Author.Needs.{needs}
-use Prim.Native.Nat.{_+_, _-_, _*_, _/_, _≤_}
+use Prim.Native.Nat.{_+_, _-_, _≤_}
 use mathlib.Core.Path.{_∙_}
 use native.Mathlib.Omega.{arith}
 use denote.Ref.{now}
@@ -15,7 +15,7 @@ use Rattle.skip.proofs.prepare.Statement.{statement}
 use Rattle.skip.proofs.prepare.Tie as tie
 
 abbrev Inv-loop : tie.InvT-loop
-Inv-loop word m cells₀ count j₀ cells j = (j ≤ (m + 1) / 8 * 8 - 8) × Filled (patternOf word m) cells₀ j cells
+Inv-loop word m cells₀ count j₀ cells j = (j ≤ count) × Filled (patternOf word m) cells₀ j cells
 
 abbrev μ-loop : tie.MeasureT-loop
 μ-loop word m cells₀ count j₀ cells j = m - j
@@ -26,14 +26,6 @@ room c =
     let k = c .before .before .before in
     let s = k .before .before .before .before in
     omega (arith, c .loop .inv .1 .size, same-size 256 (now (s .args .cells)) (k .clear .last .0) (k .clear .ensures) (omega arith))
-
--- what the last call leaves
-all : (c : tie.After-slice-known4 Inv-loop μ-loop)
-    → let l = c .before .before .before .before .before .loop in
-    let k = c .before .before .before .before .before .before .before .before in
-    let a = k .before .before .before .before .args in
-    Filled (patternOf (now (a .word)) (a .m)) (k .clear .last .0) (l .j + ((a .m + 1) / 8 * 8 - 8 - l .j)) (c .before .before .enter2 .last .1 .1 .1 .1 .0)
-all c = filled-then (c .before .before .before .before .before .loop .inv .1) (c .before .before .enter2 .ensures)
 
 clear-requires : tie.Need-clear-requires Inv-loop μ-loop
 clear-requires c κs = search needs
@@ -84,13 +76,14 @@ same-length : tie.Need-same-length Inv-loop μ-loop
 same-length c =
     let k = c .before .before .before .before .before .before .before .before in
     let a = k .before .before .before .before .args in
-    all c .size ∙ same-size 256 (now (a .cells)) (k .clear .last .0) (k .clear .ensures) (omega arith)
+    filled-then (c .before .before .before .before .before .loop .inv .1) (c .before .before .enter2 .ensures) .size ∙ same-size 256 (now (a .cells)) (k .clear .last .0) (k .clear .ensures) (omega arith)
 
 returns : tie.Need-returns Inv-loop μ-loop
 returns c =
     let k = c .before .before .before .before .before .before .before .before in
     let a = k .before .before .before .before .args in
-    filled-all (patternOf (now (a .word)) (a .m)) (now (a .cells)) _ _ _ (k .clear .ensures) (omega arith) (all c) (omega (arith, chained-is (a .m)))
+    filled-all (patternOf (now (a .word)) (a .m)) (now (a .cells)) _ _ _ (k .clear .ensures) (omega arith)
+    (filled-then (c .before .before .before .before .before .loop .inv .1) (c .before .before .enter2 .ensures)) (omega (arith, chained-is (a .m)))
 
 pub prepare-spec : {M : Type 1} → statement M
 prepare-spec =
