@@ -48,12 +48,6 @@ unfoldable pub Reaches : Method → Packed → Pattern → ℕ → ℕ → List 
 Reaches x t w s k found at =
     (b cells : ℕ) → length found ≤ cells → run x t w (k + b) s cells ≡ after k found (run x t w b at (cells - length found))
 
--- steps from the mark s that find nothing, at most so many
-pub record Quiet (x : Method) (t : Packed) (w : Pattern) (s budget at steps : ℕ) : Type 0 where
-  pub reaches : Reaches x t w s steps [] at
-  pub within : steps ≤ budget
-  pub inside : at ≤ places t w
-
 -- places written to a list one behind the other: those found stand in it from cell `had` on, and `hits` cells are written
 pub record Writing (before : List ℕ) (had : ℕ) (found list : List ℕ) (hits : ℕ) : Type 0 where
   pub cells : list ≡ sets before had found

@@ -4,12 +4,6 @@ pub mod compare;
 
 use bits::Place;
 
-// Where a stretch of steps that find nothing ends, and how many they are.
-pub struct Hop {
-    pub at: Place,
-    pub steps: u32,
-}
-
 // What one step leaves: the next mark, how many cells of the list are written, and whether a place found none; the mark is
 // then that place.
 pub struct Found {

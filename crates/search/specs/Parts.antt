@@ -17,7 +17,7 @@ use Rattle.rules.specs.Step.{unfit, finds, next}
 use Rattle.rules.specs.Machine.{Ending, done, spent, full, run, after}
 use Rattle.search.specs.Verdict.{Verdict, refused, accepted, rows, judge, numberOfRefusal, endingOf, scratchCells, Carries}
 use Rattle.matcher.specs.Tables.{Tables, cellsFor}
-use Rattle.matcher.specs.Progress.{textOf, patternOf, HeadOf, GoodPattern, Ready, Reaches, Quiet, Stepped}
+use Rattle.matcher.specs.Progress.{GoodPattern}
 
 -- how a run stopped, by whether a place found no cell, the mark left and the number of places
 abbrev pub endingAt : Bool → ℕ → ℕ → Ending

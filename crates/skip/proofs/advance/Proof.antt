@@ -180,7 +180,9 @@ returns-3 : tie.Need-returns-3 Inv-loop μ-loop
 returns-3 c =
     let l = c .before .before .loop in
     let a = c .before .before .before .before .before .before .before .before .args in
-    let mark : c .cut .result ≡ min (l .at) (places (textOf (now (a .text)) (a .n)) (patternOf (now (a .word)) (a .m))) = c .cut .ensures ∙ ap (min (l .at)) (end-is (a .n) (a .m)) in
+    let E = places (textOf (now (a .text)) (a .n)) (patternOf (now (a .word)) (a .m)) in
+    let end : a .n - a .m + 1 ≡ E = omega arith in
+    let mark : c .cut .result ≡ min (l .at) E = c .cut .ensures ∙ ap (min (l .at)) end in
     rw mark (l .inv .2)
 
 pub advance-spec : {M : Type 1} → statement M
