@@ -22,7 +22,7 @@ use Rattle.rules.specs.Step.{finds, ahead, next}
 use Rattle.matcher.specs.Progress.{textOf, Ready, GoodPattern, Stepped, Writing}
 use Rattle.rules.proofs.Occurrence.{occurs-inside}
 use Rattle.rules.proofs.Hash.{LeastMeeting, again-least, hash-compares}
-use Rattle.matcher.proofs.Writing.{writing-none, writing-more, stepped-whole, stepped-full}
+use Rattle.matcher.proofs.Writing.{stepped-none, stepped-one, stepped-no-cell}
 
 -- a comparison does not look at the text's bit count
 pub matches-any : (bytes : List ℕ) (n : ℕ) (w : Pattern) (s : ℕ) → matches (textOf bytes 0) w s ≡ matches (textOf bytes n) w s
@@ -115,22 +115,14 @@ module _ (t : Packed) (w : Pattern) (cells : List ℕ) (ready : Ready Hash t w c
   module _ (s : ℕ) (inside : s < places t w) (before : List ℕ) (had : ℕ) where
     -- the pattern stands at s, and no cell is free
     pub stepped-cut : matches t w s ≡ true → had ≡ length before → Stepped Hash t w s before had s had true before
-    stepped-cut hit h =
-        let found : finds Hash t w s ≡ [] ++ s ∷ [] = step-finds s inside ∙ ap (λ (b : Bool). keep b s []) hit in
-        let all : Writing before had [] before (length before) = record { cells = refl; count = omega arith; fits = omega arith } in
-        subst (λ (n : ℕ). Stepped Hash t w s before had s n true before) (sym h)
-        (stepped-full Hash t w s before had [] [] before s (omega arith) found all)
+    stepped-cut hit h = stepped-no-cell Hash t w s before had (step-finds s inside ∙ ap (λ (b : Bool). keep b s []) hit) h
 
     -- it stands there, and a cell is free
     pub stepped-hit : (at : ℕ) → at ≡ next Hash t w s → matches t w s ≡ true → had < length before → Stepped Hash t w s before had at (had + 1) false (set before had s)
     stepped-hit at moved hit h =
-        let found : finds Hash t w s ≡ [] ++ s ∷ [] = step-finds s inside ∙ ap (λ (b : Bool). keep b s []) hit in
-        rw moved
-        (stepped-whole Hash t w s before had (set before had s) (had + 1)
-        (rw found (writing-more before had [] before had s (writing-none before had (omega arith)) h)))
+        rw moved (stepped-one Hash t w s before had (step-finds s inside ∙ ap (λ (b : Bool). keep b s []) hit) h)
 
     -- it does not stand there
     pub stepped-miss : (at : ℕ) → at ≡ next Hash t w s → matches t w s ≡ false → had ≤ length before → Stepped Hash t w s before had at had false before
     stepped-miss at moved miss h =
-        let found : finds Hash t w s ≡ [] = step-finds s inside ∙ ap (λ (b : Bool). keep b s []) miss in
-        rw moved (stepped-whole Hash t w s before had before had (rw found (writing-none before had h)))
+        rw moved (stepped-none Hash t w s before had (step-finds s inside ∙ ap (λ (b : Bool). keep b s []) miss) h)

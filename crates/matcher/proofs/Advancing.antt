@@ -19,7 +19,7 @@ use Rattle.rules.specs.Machine.{full, Run, run, after, cut}
 use Rattle.matcher.specs.Progress.{Reaches, Writing, Stepped, Advanced}
 use Rattle.rules.proofs.Step.{next-le}
 use Rattle.matcher.proofs.Progress.{reaches-none, reaches-step, reaches-join, run-to-cut, whole}
-use Rattle.matcher.proofs.Writing.{writing-none, writing-more, writing-append, writing-length, stepped-whole, stepped-full}
+use Rattle.matcher.proofs.Writing.{writing-none, writing-append, writing-length}
 
 module _ (x : Method) (t : Packed) (w : Pattern) where
   -- steps that find nothing
@@ -121,19 +121,3 @@ module _ (x : Method) (t : Packed) (w : Pattern) where
     -- a step more that finds nothing
     pub advanced-miss : at < places t w → steps < budget → finds x t w at ≡ [] → Advanced x t w s budget before had (next x t w at) (steps + 1) hits false list
     advanced-miss l b e = advanced-more (next x t w at) 1 (rw e at (reaches-step x t w at l)) (omega arith) (next-le x t w at)
-
-    -- a step more that finds its own place, which has a cell
-    pub advanced-hit : at < places t w → steps < budget → finds x t w at ≡ at ∷ [] → hits < length list
-        → Advanced x t w s budget before had (next x t w at) (steps + 1) (hits + 1) false (set list hits at)
-    advanced-hit l b e f =
-        advanced-step (next x t w at) (hits + 1) false (set list hits at) l b
-        (stepped-whole x t w at list hits (set list hits at) (hits + 1) (rw e (writing-more list hits [] list hits at (writing-none list hits (omega arith)) f)))
-
-    -- or has none
-    pub advanced-full : at < places t w → steps < budget → finds x t w at ≡ at ∷ [] → length list ≤ hits
-        → Advanced x t w s budget before had at (steps + 1) hits true list
-    advanced-full l b e f =
-        let same : length list ≡ length before = writing-length before had (a .found) list hits (a .writing) in
-        let all : hits ≡ length list = omega (arith, a .writing .fits) in
-        advanced-step at hits true list l b
-        (rw all (stepped-full x t w at list (length list) [] [] list at (omega arith) e (writing-none list (length list) (omega arith))))

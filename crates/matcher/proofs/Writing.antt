@@ -1,6 +1,6 @@
 -- Places written to a list one after the other, and what makes a step of them: every method's step ends by these laws.
 -- Assumes nothing.
-use mathlib.Core.Path.{_≡_, refl, sym, ap, ap₂, _∙_}
+use mathlib.Core.Path.{_≡_, refl, sym, ap, ap₂, subst, _∙_}
 use mathlib.Core.Bool.{Bool, true, false, cond}
 use mathlib.Core.List.{List, [], _∷_, _++_, append-nil}
 use Prim.Native.Nat.{ℕ, zero, suc, _+_, _-_, _≤_, _<_}
@@ -87,3 +87,18 @@ module _ (x : Method) (t : Packed) (w : Pattern) (s : ℕ) (before : List ℕ) (
         count = rw front (u .count);
         cells = rw front (u .cells);
       }
+
+  -- nothing is found
+  pub stepped-none : finds x t w s ≡ [] → had ≤ length before → Stepped x t w s before had (next x t w s) had false before
+  stepped-none e h = stepped-whole before had (rw e (writing-none before had h))
+
+  -- the place s alone is found, and has a cell
+  pub stepped-one : finds x t w s ≡ s ∷ [] → had < length before → Stepped x t w s before had (next x t w s) (had + 1) false (set before had s)
+  stepped-one e h =
+      stepped-whole (set before had s) (had + 1) (rw e (writing-more before had [] before had s (writing-none before had (omega arith)) h))
+
+  -- or has none
+  pub stepped-no-cell : finds x t w s ≡ s ∷ [] → had ≡ length before → Stepped x t w s before had s had true before
+  stepped-no-cell e h =
+      let all : Writing before had [] before (length before) = record { cells = refl; count = omega arith; fits = omega arith } in
+      subst (λ (n : ℕ). Stepped x t w s before had s n true before) (sym h) (stepped-full [] [] before s (omega arith) e all)

@@ -22,7 +22,7 @@ use Rattle.rules.proofs.Plain.{rows-match}
 use Rattle.plain.proofs.RowCells.{fits-matches}
 use Rattle.matcher.proofs.Progress.{reaches-none, reaches-quiet}
 use Rattle.matcher.proofs.Advancing.{advanced-step, advanced-more}
-use Rattle.matcher.proofs.Writing.{writing-none, writing-more, stepped-whole, stepped-full}
+use Rattle.matcher.proofs.Writing.{stepped-none, stepped-one, stepped-no-cell}
 
 module _ (t : Packed) (w : Pattern) where
   finds-none : (s : ℕ) → matches t w s ≡ false → finds Plain t w s ≡ []
@@ -77,18 +77,10 @@ module _ (t : Packed) (w : Pattern) where
     same = fits-matches t w cells (ready .tables) s small r iff
 
     pub step-none : r ≡ false → Stepped Plain t w s before had (s + 1) had false before
-    step-none e =
-        rw (next-one s inside) at
-        (stepped-whole Plain t w s before had before had (rw (finds-none s (sym same ∙ e)) (writing-none before had fits)))
+    step-none e = rw (next-one s inside) at (stepped-none Plain t w s before had (finds-none s (sym same ∙ e)) fits)
 
     pub step-one : r ≡ true → had < length before → Stepped Plain t w s before had (s + 1) (had + 1) false (set before had s)
-    step-one e h =
-        rw (next-one s inside) at
-        (stepped-whole Plain t w s before had (set before had s) (had + 1)
-        (rw (finds-one s (sym same ∙ e)) (writing-more before had [] before had s (writing-none before had fits) h)))
+    step-one e h = rw (next-one s inside) at (stepped-one Plain t w s before had (finds-one s (sym same ∙ e)) h)
 
     pub step-full : r ≡ true → length before ≤ had → Stepped Plain t w s before had s had true before
-    step-full e h =
-        let whole : length before ≡ had = omega arith in
-        rw whole at
-        (stepped-full Plain t w s before had [] [] before s fits (finds-one s (sym same ∙ e)) (rw whole (writing-none before had fits)))
+    step-full e h = stepped-no-cell Plain t w s before had (finds-one s (sym same ∙ e)) (omega arith)
