@@ -1,7 +1,7 @@
 /*
  * Searches the course's two papers through include/mitongory.h. Build and run, after `rt staticlib capi`:
  *
- *     cc -Iinclude examples/find.c target/staticlib/libcapi.a -o find && ./find
+ *     cc -Iinclude examples/find.c target/staticlib/libcapi.a -o target/find && target/find
  */
 #include <inttypes.h>
 #include <stdint.h>
