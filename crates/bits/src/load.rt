@@ -88,16 +88,25 @@ fn last_bytes(bytes: &[u8], b: usize) -> u64
     x
 }
 
+// The 64 bits from p on where nine bytes from p's byte on are there: no branch.
+pub fn word_inside(bytes: &[u8], p: Place) -> u64
+    requires { ⌜ p .0 / 8 + 9 ≤ length (now bytes) ⌝ }
+    ensures { λ r. ⌜ r ≡ bitsAt (now (bytes .entry)) (p .0) 64 ⌝ }
+{
+    let b = p.byte().0;
+    let r = p.offset();
+    (eight_bytes(bytes, b) << r) | (wide(bytes[b + 8]) >> (8 - r))
+}
+
 // The 64 bits from p on.
 pub fn word_at(bytes: &[u8], p: Place) -> u64
     ensures { λ r. ⌜ r ≡ bitsAt (now (bytes .entry)) (p .0) 64 ⌝ }
 {
     let b = p.byte().0;
-    let r = p.offset();
     if b + 8 < bytes.len() {
-        (eight_bytes(bytes, b) << r) | (wide(bytes[b + 8]) >> (8 - r))
+        word_inside(bytes, p)
     } else {
-        last_bytes(bytes, b) << r
+        last_bytes(bytes, b) << p.offset()
     }
 }
 

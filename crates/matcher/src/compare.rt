@@ -1,8 +1,10 @@
 // Whether the pattern stands at a place, by 64 bits at a time. The text's bit count plays no part in it.
+use bits::ByteNo;
 use bits::Place;
 use bits::load;
 ghost use mathlib.Core.Path.{_≡_};
-ghost use Prim.Native.Nat.{_^_, _≤_, _<_};
+ghost use Prim.Native.Nat.{_+_, _/_, _^_, _≤_, _<_};
+ghost use lib.ListN.{length};
 ghost use Rattle.rules.specs.Occurrence.{matches};
 ghost use Rattle.matcher.specs.Progress.{textOf, patternOf, HeadOf};
 
@@ -29,8 +31,31 @@ pub fn head_of(word: &[u8], m: u32) -> Head
     }
 }
 
-// Whether the pattern stands at s, by all of its bits; the last load overlaps the one before it.
-pub fn stands(text: &[u8], word: &[u8], m: u32, s: Place) -> bool
+// Whether the pattern stands at s, by all of its bits, where the text goes on far enough behind them that no load needs a
+// test for its end; the last load overlaps the one before it.
+fn stands_inside(text: &[u8], word: &[u8], m: u32, s: Place) -> bool
+    requires { ⌜ (0 < m) × (m ≤ 2048) × (s .0 ≤ 2 ^ 30) × (s .0 / 8 + m / 8 + 9 ≤ length (now text)) ⌝ }
+    ensures { λ r. ⌜ r ≡ matches (textOf (now (text .entry)) 0) (patternOf (now (word .entry)) m) (s .0) ⌝ }
+{
+    if m <= 64 {
+        return load::word_inside(text, s) >> (64 - m)
+            == load::word_at_byte(word, ByteNo(0)) >> (64 - m);
+    }
+    let at = s.0;
+    let mut o = 0u32;
+    while o + 64 < m {
+        if load::word_inside(text, Place(at + o))
+            != load::word_at_byte(word, ByteNo((o / 8) as usize))
+        {
+            return false;
+        }
+        o += 64;
+    }
+    load::word_inside(text, Place(at + (m - 64))) == load::word_at(word, Place(m - 64))
+}
+
+// The same where the text ends sooner.
+fn stands_near_end(text: &[u8], word: &[u8], m: u32, s: Place) -> bool
     requires { ⌜ (0 < m) × (m ≤ 2048) × (s .0 ≤ 2 ^ 30) ⌝ }
     ensures { λ r. ⌜ r ≡ matches (textOf (now (text .entry)) 0) (patternOf (now (word .entry)) m) (s .0) ⌝ }
 {
@@ -38,17 +63,28 @@ pub fn stands(text: &[u8], word: &[u8], m: u32, s: Place) -> bool
         return load::word_at(text, s) >> (64 - m) == load::word_at(word, Place(0)) >> (64 - m);
     }
     let at = s.0;
-    let mut o = 0u32;
-    while o + 64 < m {
-        if load::word_at(text, Place(at + o)) != load::word_at(word, Place(o)) {
+    let mut i = 0u32;
+    while i + 64 < m {
+        if load::word_at(text, Place(at + i)) != load::word_at(word, Place(i)) {
             return false;
         }
-        o += 64;
+        i += 64;
     }
     load::word_at(text, Place(at + (m - 64))) == load::word_at(word, Place(m - 64))
 }
 
-// The same for a hot loop: one load rules most places out, and `stands`, which is called and not inlined since other
+// Whether the pattern stands at s.
+pub fn stands(text: &[u8], word: &[u8], m: u32, s: Place) -> bool
+    requires { ⌜ (0 < m) × (m ≤ 2048) × (s .0 ≤ 2 ^ 30) ⌝ }
+    ensures { λ r. ⌜ r ≡ matches (textOf (now (text .entry)) 0) (patternOf (now (word .entry)) m) (s .0) ⌝ }
+{
+    if s.byte().0 + (m / 8) as usize + 9 <= text.len() {
+        return stands_inside(text, word, m, s);
+    }
+    stands_near_end(text, word, m, s)
+}
+
+// And for a hot loop: one load rules most places out, and `stands`, which is called and not inlined since other
 // code uses it too, settles the others.
 pub fn same(text: &[u8], word: &[u8], m: u32, h: Head, s: Place) -> bool
     requires { ⌜ (0 < m) × (m ≤ 2048) × (s .0 ≤ 2 ^ 30) ⌝ }

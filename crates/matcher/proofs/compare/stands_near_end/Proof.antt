@@ -1,4 +1,4 @@
--- `matcher::compare::stands` meets its contract. A short pattern is one load; else the loop's invariant is that the bits passed
+-- `matcher::compare::stands_near_end` meets its contract. A short pattern is one load; else the loop's invariant is that the bits passed
 -- agree.
 -- Assumes nothing.
 use borrow.Author.Needs.{needs}
@@ -12,14 +12,14 @@ use Rattle.bits.specs.Packed.{bitsAt}
 use Rattle.bits.proofs.Run.{bits-first}
 use Rattle.matcher.specs.Progress.{textOf, patternOf}
 use Rattle.matcher.proofs.Chunks.{AgreesTo, agrees-more, chunk-differs, chunk-decides}
-use Rattle.matcher.proofs.compare.stands.Statement.{statement}
-use Rattle.matcher.proofs.compare.stands.Tie as tie
+use Rattle.matcher.proofs.compare.stands_near_end.Statement.{statement}
+use Rattle.matcher.proofs.compare.stands_near_end.Tie as tie
 
 abbrev Inv-loop : tie.InvT-loop
-Inv-loop text word m at o₀ o = (o < m) × AgreesTo (textOf text 0) (patternOf word m) at o
+Inv-loop text word m at i₀ i = (i < m) × AgreesTo (textOf text 0) (patternOf word m) at i
 
 abbrev μ-loop : tie.MeasureT-loop
-μ-loop text word m at o₀ o = m - o
+μ-loop text word m at i₀ i = m - i
 
 word-at-requires : tie.Need-word-at-requires Inv-loop μ-loop
 word-at-requires c κs = search needs
@@ -68,12 +68,12 @@ word-at-requires-4 c κs = search needs
 returns-2 : tie.Need-returns-2 Inv-loop μ-loop
 returns-2 c =
     let a = c .before .before .before .before .before .before .before .before .args in
-    let o = c .before .before .before .before .loop .o in
+    let o = c .before .before .before .before .loop .i in
     sym (chunk-differs (textOf (now (a .text)) 0) (patternOf (now (a .word)) (a .m)) (a .s .0) o 64 (omega arith)
     (λ e. c .if2 .taken (c .before .before .word-at3 .ensures ∙ e ∙ sym (c .before .word-at4 .ensures))))
 
-add-o : tie.Need-add-o Inv-loop μ-loop
-add-o c = omega arith
+add-i : tie.Need-add-i Inv-loop μ-loop
+add-i c = omega arith
 
 loop-less : tie.Need-loop-less Inv-loop μ-loop
 loop-less c = omega arith
@@ -83,7 +83,7 @@ loop-again c =
     let a = c .before .before .before .before .before .before .before .before .args in
     let l = c .before .before .before .before .loop in (
       omega arith,
-      agrees-more (textOf (now (a .text)) 0) (patternOf (now (a .word)) (a .m)) (a .s .0) (l .o) 64 (l .inv .1)
+      agrees-more (textOf (now (a .text)) 0) (patternOf (now (a .word)) (a .m)) (a .s .0) (l .i) 64 (l .inv .1)
           (sym (c .before .before .word-at3 .ensures) ∙ c .if2 .left ∙ c .before .word-at4 .ensures),
     )
 
@@ -107,10 +107,10 @@ returns-3 c =
     let a = c .before .before .before .before .before .before .before .args in
     let l = c .before .before .before .loop in
     ap₂ eqb (c .before .word-at5 .ensures) (c .word-at6 .ensures)
-    ∙ chunk-decides (textOf (now (a .text)) 0) (patternOf (now (a .word)) (a .m)) (a .s .0) (l .o) 64 (l .inv .1) (omega arith) (omega arith)
+    ∙ chunk-decides (textOf (now (a .text)) 0) (patternOf (now (a .word)) (a .m)) (a .s .0) (l .i) 64 (l .inv .1) (omega arith) (omega arith)
 
-pub stands-spec : {M : Type 1} → statement M
-stands-spec =
+pub stands-near-end-spec : {M : Type 1} → statement M
+stands-near-end-spec =
     tie.close
     (tie.spec
     Inv-loop
@@ -128,7 +128,7 @@ stands-spec =
     word-at-requires-3
     word-at-requires-4
     returns-2
-    add-o
+    add-i
     loop-less
     loop-again
     sub-t24
