@@ -65,7 +65,7 @@ static void compare(const struct job *job, int summed) {
 // One job's least times, added to the sums of nanoseconds a bit.
 static void measure(struct job *job, double seconds, double *sums) {
     double best[CONTENDERS];
-    least((struct race){search, sum, job, CONTENDERS}, seconds, 5, best);
+    least((struct race){search, sum, job, CONTENDERS}, seconds, 9, best);
     compare(job, 1);
     for (int i = 0; i < CONTENDERS; i++) sums[i] += best[i] / (i == LOOP ? job->n / 8 : job->n);
 }
