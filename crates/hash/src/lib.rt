@@ -1,4 +1,6 @@
 // The hash method. Cell B of the table holds the move behind the value B: the least d in 1..m that meets the condition.
+pub mod value;
+
 use bits::Place;
 use bits::load;
 use matcher::Advance;

@@ -13,14 +13,17 @@ use Rattle.bits.specs.Packed.{Packed, bytesFor}
 use Rattle.rules.specs.declared.Method.{Method}
 use Rattle.rules.specs.declared.Method.the-variants.{Plain, Hash, Skip, Wide}
 use Rattle.search.specs.declared.Answer.{Answer}
+use Rattle.search.specs.declared.Refusal.{Refusal}
+use Rattle.search.specs.declared.check.Checked.{Checked}
+use Rattle.search.specs.declared.check.Checked.the-variants.{Passed, Refused}
 use Rattle.rules.specs.Pattern.{Pattern}
 use Rattle.rules.specs.Occurrence.{places}
 use Rattle.rules.specs.Step.{unfit}
 use Rattle.rules.specs.Machine.{run, done, stopped}
-use Rattle.search.specs.Verdict.{Request, rows, AllFail, refused, accepted, machine, verdict, scratchCells, Carries}
+use Rattle.search.specs.Verdict.{Request, rows, AllFail, refused, machine, verdict, scratchCells, numberOfRefusal, Carries}
 use Rattle.matcher.specs.Tables.{cellsFor, Prepared}
 use Rattle.matcher.specs.Progress.{GoodPattern}
-use Rattle.search.specs.Parts.{checkVerdict, Allowed, Ran, Tells, Leaves}
+use Rattle.search.specs.Parts.{checkOf, checkVerdict, Allowed, Ran, Tells, Leaves}
 use Rattle.rules.proofs.Occurrence.{occurrences-length}
 use Rattle.rules.proofs.Machine.{run-ended, left}
 use Rattle.search.proofs.Verdict.{judge-accepted, judge-refused, refused-judge}
@@ -90,11 +93,11 @@ module _ (x : Method) (t : Packed) (w : Pattern) (s budget : ℕ) (before cells 
       }
 
 -- what the check said, of the whole request
-module _ (q : Request) where
-  pub passed : accepted tt ≡ checkVerdict (q .text) (q .pattern) (q .method) (q .mark) (q .scratch) → AllFail (rows q)
+module _ (q : Request) (k : Checked) (says : checkOf k ≡ checkVerdict (q .text) (q .pattern) (q .method) (q .mark) (q .scratch)) where
+  pub passed : k ≡ Passed → AllFail (rows q)
   unfolding checkVerdict rows
-  passed e = judge-accepted tt (rows q) tt (sym e) .0
+  passed e = judge-accepted tt (rows q) tt (sym says ∙ ap checkOf e) .0
 
-  pub not-passed : (k : ℕ) → refused k ≡ checkVerdict (q .text) (q .pattern) (q .method) (q .mark) (q .scratch) → verdict q ≡ refused k
+  pub not-passed : (r : Refusal) → k ≡ Refused r → verdict q ≡ refused (numberOfRefusal r)
   unfolding checkVerdict rows verdict
-  not-passed k e = refused-judge (machine q) (rows q) k (judge-refused tt (rows q) k (sym e))
+  not-passed r e = refused-judge (machine q) (rows q) (numberOfRefusal r) (judge-refused tt (rows q) (numberOfRefusal r) (sym says ∙ ap checkOf e))

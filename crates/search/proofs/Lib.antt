@@ -6,3 +6,4 @@ pub mod Padding
 pub mod Examples
 pub mod Ending
 pub mod Accepting
+pub mod Rows

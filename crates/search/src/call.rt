@@ -3,7 +3,6 @@ use crate::Answer;
 use crate::Mark;
 use crate::Method;
 use crate::Stop;
-use crate::method;
 use bits::Place;
 use matcher::compare;
 use matcher::compare::Head;
@@ -57,7 +56,7 @@ pub fn run(
                 full: true,
             };
         }
-        let more = method::advance(
+        let more = methods::advance(
             method,
             text,
             n,
@@ -146,7 +145,7 @@ pub fn accepted(
             stop: Stop::Done,
         };
     }
-    method::prepare(method, word, m, scratch);
+    methods::prepare(method, word, m, scratch);
     let h = compare::head_of(word, m);
     let left = run(mark, method, text, n, word, m, h, scratch, budget, list);
     answer(left, n - m + 1)

@@ -3,7 +3,6 @@
 mod call;
 mod check;
 pub mod hash_value;
-mod method;
 
 use bits::Place;
 use check::Checked;
@@ -121,7 +120,7 @@ impl Mark {
         ensures { λ r. ⌜ Stepped method (textOf (now (text .entry)) n) (patternOf (now (word .entry)) m) (self .at .0) (now (list .entry)) had (r .mark .at .0) (r .hits) (r .full) (now (list .exit)) ⌝ }
     {
         let s = self.at;
-        let found = method::step(method, text, n, word, m, h, cells, s, list, had);
+        let found = methods::step(method, text, n, word, m, h, cells, s, list, had);
         let at = found.at;
         Step {
             mark: Mark { at: at },

@@ -1,77 +1,58 @@
 -- `search::check::check` meets its contract: at each `return` the tests that led there say which row of the table is the first that holds.
 -- Assumes nothing.
 use mathlib.Core.Path.{sym, _∙_}
-use borrow.Author.Tests.{lt-ltb, le-ltb, eq-eqb, ne-eqb}
-use Rattle.search.specs.Verdict.{rows, judge}
-use Rattle.search.specs.Parts.{checkVerdict}
+use mathlib.Core.List.{[]}
+use denote.Ref.{now}
+use Rattle.matcher.specs.Progress.{textOf, patternOf}
+use Rattle.search.specs.Verdict.{Request}
+use Rattle.search.proofs.Rows.{row-1, row-2, row-3-none, row-3-many, row-4, row-5, row-6, row-7, no-row}
 use borrow.Author.Needs.{needs}
 use Rattle.search.proofs.check.check.Statement.{statement}
 use Rattle.search.proofs.check.check.Tie as tie
 
+-- the request as far as a check looks at it
+asked : tie.Start → Request
+asked s = let a = s .args in record { text = textOf (now (a .text)) (a .n); pattern = patternOf (now (a .word)) (a .m); method = a .method; mark = a .mark .0; budget = 0; list = []; scratch = now (a .scratch) }
+
 returns : tie.Need-returns
-unfolding checkVerdict rows judge
-returns c =
-    simp
-    (lt-ltb _ _ (c .if1 .taken))
+unfolding asked
+returns c = row-1 (asked (c .before .before .before .before)) (c .if1 .taken)
 
 add-if2 : tie.Need-add-if2
 add-if2 c = search needs
 
 returns-2 : tie.Need-returns-2
-unfolding checkVerdict rows judge
-returns-2 c =
-    simp (
-      le-ltb _ _ (c .before .if1 .left),
-      lt-ltb _ _ (c .if2 .taken),
-    )
+unfolding asked
+returns-2 c = row-2 (asked (c .before .before .before .before .before)) (c .before .if1 .left) (c .if2 .taken)
 
 returns-3 : tie.Need-returns-3
-unfolding checkVerdict rows judge
-returns-3 c =
-    simp (
-      le-ltb _ _ (c .before .before .if1 .left),
-      le-ltb _ _ (c .before .if2 .left),
-      eq-eqb _ _ (c .if3 .taken),
-    )
+unfolding asked
+returns-3 c = row-3-none (asked (c .before .before .before .before .before .before)) (c .before .before .if1 .left) (c .before .if2 .left) (c .if3 .taken)
 
 returns-4 : tie.Need-returns-4
-unfolding checkVerdict rows judge
+unfolding asked
 returns-4 c =
-    simp (
-      le-ltb _ _ (c .before .before .before .if1 .left),
-      le-ltb _ _ (c .before .before .if2 .left),
-      ne-eqb _ _ (c .before .if3 .left),
-      lt-ltb _ _ (c .if4 .taken),
-    )
+    row-3-many (asked (c .before .before .before .before .before .before .before))
+    (c .before .before .before .if1 .left) (c .before .before .if2 .left) (c .before .if3 .left) (c .if4 .taken)
 
 add-if5 : tie.Need-add-if5
 add-if5 c = search needs
 
 returns-5 : tie.Need-returns-5
-unfolding checkVerdict rows judge
+unfolding asked
 returns-5 c =
-    simp (
-      le-ltb _ _ (c .before .before .before .before .if1 .left),
-      le-ltb _ _ (c .before .before .before .if2 .left),
-      ne-eqb _ _ (c .before .before .if3 .left),
-      le-ltb _ _ (c .before .if4 .left),
-      lt-ltb _ _ (c .if5 .taken),
-    )
+    row-4 (asked (c .before .before .before .before .before .before .before .before))
+    (c .before .before .before .before .if1 .left) (c .before .before .before .if2 .left) (c .before .before .if3 .left) (c .before .if4 .left) (c .if5 .taken)
 
 too-short-requires : tie.Need-too-short-requires
 too-short-requires c κs = search needs
 
 returns-6 : tie.Need-returns-6
-unfolding checkVerdict rows judge
+unfolding asked
 returns-6 c =
-    simp (
-      le-ltb _ _ (c .before .before .before .before .before .before .if1 .left),
-      le-ltb _ _ (c .before .before .before .before .before .if2 .left),
-      ne-eqb _ _ (c .before .before .before .before .if3 .left),
-      le-ltb _ _ (c .before .before .before .if4 .left),
-      le-ltb _ _ (c .before .before .if5 .left),
-      sym (c .before .too-short .ensures) ∙ c .if6 .taken,
-    )
+    row-5 (asked (c .before .before .before .before .before .before .before .before .before .before))
+    (c .before .before .before .before .before .before .if1 .left) (c .before .before .before .before .before .if2 .left) (c .before .before .before .before .if3 .left) (c .before .before .before .if4 .left) (c .before .before .if5 .left)
+    (sym (c .before .too-short .ensures) ∙ c .if6 .taken)
 
 places-requires : tie.Need-places-requires
 places-requires c κs = search needs
@@ -80,45 +61,30 @@ cast-if7 : tie.Need-cast-if7
 cast-if7 c = search needs
 
 returns-7 : tie.Need-returns-7
-unfolding checkVerdict rows judge
+unfolding asked
 returns-7 c =
-    simp (
-      le-ltb _ _ (c .before .before .before .before .before .before .before .before .before .if1 .left),
-      le-ltb _ _ (c .before .before .before .before .before .before .before .before .if2 .left),
-      ne-eqb _ _ (c .before .before .before .before .before .before .before .if3 .left),
-      le-ltb _ _ (c .before .before .before .before .before .before .if4 .left),
-      le-ltb _ _ (c .before .before .before .before .before .if5 .left),
-      sym (c .before .before .before .before .too-short .ensures) ∙ c .before .before .before .if6 .left,
-      lt-ltb _ _ (rw (c .before .before .places .ensures) at (c .if7 .taken)),
-    )
+    row-6 (asked (c .before .before .before .before .before .before .before .before .before .before .before .before .before))
+    (c .before .before .before .before .before .before .before .before .before .if1 .left) (c .before .before .before .before .before .before .before .before .if2 .left) (c .before .before .before .before .before .before .before .if3 .left) (c .before .before .before .before .before .before .if4 .left) (c .before .before .before .before .before .if5 .left)
+    (sym (c .before .before .before .before .too-short .ensures) ∙ c .before .before .before .if6 .left)
+    (rw (c .before .before .places .ensures) at (c .if7 .taken))
 
 returns-8 : tie.Need-returns-8
-unfolding checkVerdict rows judge
+unfolding asked
 returns-8 c =
-    simp (
-      le-ltb _ _ (c .before .before .before .before .before .before .before .before .before .before .if1 .left),
-      le-ltb _ _ (c .before .before .before .before .before .before .before .before .before .if2 .left),
-      ne-eqb _ _ (c .before .before .before .before .before .before .before .before .if3 .left),
-      le-ltb _ _ (c .before .before .before .before .before .before .before .if4 .left),
-      le-ltb _ _ (c .before .before .before .before .before .before .if5 .left),
-      sym (c .before .before .before .before .before .too-short .ensures) ∙ c .before .before .before .before .if6 .left,
-      le-ltb _ _ (rw (c .before .before .before .places .ensures) at (c .before .if7 .left)),
-      lt-ltb _ _ (c .if8 .taken),
-    )
+    row-7 (asked (c .before .before .before .before .before .before .before .before .before .before .before .before .before .before))
+    (c .before .before .before .before .before .before .before .before .before .before .if1 .left) (c .before .before .before .before .before .before .before .before .before .if2 .left) (c .before .before .before .before .before .before .before .before .if3 .left) (c .before .before .before .before .before .before .before .if4 .left) (c .before .before .before .before .before .before .if5 .left)
+    (sym (c .before .before .before .before .before .too-short .ensures) ∙ c .before .before .before .before .if6 .left)
+    (rw (c .before .before .before .places .ensures) at (c .before .if7 .left))
+    (c .if8 .taken)
 
 returns-9 : tie.Need-returns-9
-unfolding checkVerdict rows judge
+unfolding asked
 returns-9 c =
-    simp (
-      le-ltb _ _ (c .before .before .before .before .before .before .before .before .before .before .if1 .left),
-      le-ltb _ _ (c .before .before .before .before .before .before .before .before .before .if2 .left),
-      ne-eqb _ _ (c .before .before .before .before .before .before .before .before .if3 .left),
-      le-ltb _ _ (c .before .before .before .before .before .before .before .if4 .left),
-      le-ltb _ _ (c .before .before .before .before .before .before .if5 .left),
-      sym (c .before .before .before .before .before .too-short .ensures) ∙ c .before .before .before .before .if6 .left,
-      le-ltb _ _ (rw (c .before .before .before .places .ensures) at (c .before .if7 .left)),
-      le-ltb _ _ (c .if8 .left),
-    )
+    no-row (asked (c .before .before .before .before .before .before .before .before .before .before .before .before .before .before))
+    (c .before .before .before .before .before .before .before .before .before .before .if1 .left) (c .before .before .before .before .before .before .before .before .before .if2 .left) (c .before .before .before .before .before .before .before .before .if3 .left) (c .before .before .before .before .before .before .before .if4 .left) (c .before .before .before .before .before .before .if5 .left)
+    (sym (c .before .before .before .before .before .too-short .ensures) ∙ c .before .before .before .before .if6 .left)
+    (rw (c .before .before .before .places .ensures) at (c .before .if7 .left))
+    (c .if8 .left)
 
 pub check-spec : {M : Type 1} → statement M
 check-spec =

@@ -1,4 +1,4 @@
--- `search::hash_value::hash_of` meets its contract. The loop's invariant: no move below d meets the condition.
+-- `hash::value::hash_of` meets its contract. The loop's invariant: no move below d meets the condition.
 -- Assumes nothing.
 use borrow.Author.Needs.{needs}
 use mathlib.Core.Path.{sym, _∙_}
@@ -6,10 +6,10 @@ use Prim.Native.Nat.{_+_, _-_, _≤_}
 use native.Mathlib.Omega.{arith}
 use denote.Ref.{now}
 use Rattle.matcher.specs.Progress.{patternOf}
 use Rattle.hash.proofs.HashSteps.{long-enough}
 use Rattle.hash.proofs.HashValues.{NoneBelow, none-more, hash-is, shown-whole}
-use Rattle.search.proofs.hash_value.hash_of.Statement.{statement}
-use Rattle.search.proofs.hash_value.hash_of.Tie as tie
+use Rattle.hash.proofs.value.hash_of.Statement.{statement}
+use Rattle.hash.proofs.value.hash_of.Tie as tie
 
 abbrev Inv-loop : tie.InvT-loop
 Inv-loop word m value d₀ d = (d + 7 ≤ m) × NoneBelow (patternOf word m) value d

@@ -1,8 +1,8 @@
--- `search::method::prepare` meets its contract: each arm is the method whose variant it is told.
+-- `methods::prepare` meets its contract: each arm is the method whose variant it is told.
 -- Assumes nothing.
 use borrow.Author.Needs.{needs}
-use Rattle.search.proofs.method.prepare.Statement.{statement}
-use Rattle.search.proofs.method.prepare.Tie as tie
+use Rattle.methods.proofs.prepare.Statement.{statement}
+use Rattle.methods.proofs.prepare.Tie as tie
 
 enum-told : tie.Need-enum-told
 enum-told c = search needs

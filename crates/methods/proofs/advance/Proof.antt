@@ -1,44 +1,33 @@
--- `search::method::advance` meets its contract: each arm is the method whose variant it is told.
+-- `methods::advance` meets its contract: each arm is the method whose variant it is told.
 -- Assumes nothing.
 use borrow.Author.Needs.{needs}
-use Rattle.search.proofs.method.advance.Statement.{statement}
-use Rattle.search.proofs.method.advance.Tie as tie
+use Rattle.methods.proofs.Told.{ready-as}
+use Rattle.methods.proofs.advance.Statement.{statement}
+use Rattle.methods.proofs.advance.Tie as tie
 
 enum-told : tie.Need-enum-told
 enum-told c = search needs
 
 advance-requires : tie.Need-advance-requires
-advance-requires c κs =
-    let s = c .before .before .before .before .before .before .before in
-    let e = c .before .enum-told .given .1 in
-    (rw e at (s .pre .0), s .pre .1)
+advance-requires c κs = ready-as (c .before .enum-told .given .1) (c .before .before .before .before .before .before .before .pre)
 
 enum-told-2 : tie.Need-enum-told-2
 enum-told-2 c = search needs
 
 advance-requires-2 : tie.Need-advance-requires-2
-advance-requires-2 c κs =
-    let s = c .before .before .before .before .before .before .before in
-    let e = c .before .enum-told2 .given .1 in
-    (rw e at (s .pre .0), s .pre .1)
+advance-requires-2 c κs = ready-as (c .before .enum-told2 .given .1) (c .before .before .before .before .before .before .before .pre)
 
 enum-told-3 : tie.Need-enum-told-3
 enum-told-3 c = search needs
 
 advance-requires-3 : tie.Need-advance-requires-3
-advance-requires-3 c κs =
-    let s = c .before .before .before .before .before .before .before in
-    let e = c .before .enum-told3 .given .1 in
-    (rw e at (s .pre .0), s .pre .1)
+advance-requires-3 c κs = ready-as (c .before .enum-told3 .given .1) (c .before .before .before .before .before .before .before .pre)
 
 enum-told-4 : tie.Need-enum-told-4
 enum-told-4 c = search needs
 
 advance-requires-4 : tie.Need-advance-requires-4
-advance-requires-4 c κs =
-    let s = c .before .before .before .before .before .before .before in
-    let e = c .before .enum-told4 .given .1 in
-    (rw e at (s .pre .0), s .pre .1)
+advance-requires-4 c κs = ready-as (c .before .enum-told4 .given .1) (c .before .before .before .before .before .before .before .pre)
 
 same-length : tie.Need-same-length
 same-length c = search needs

@@ -1,44 +1,33 @@
--- `search::method::step` meets its contract: each arm is the method whose variant it is told.
+-- `methods::step` meets its contract: each arm is the method whose variant it is told.
 -- Assumes nothing.
 use borrow.Author.Needs.{needs}
-use Rattle.search.proofs.method.step.Statement.{statement}
-use Rattle.search.proofs.method.step.Tie as tie
+use Rattle.methods.proofs.Told.{ready-as}
+use Rattle.methods.proofs.step.Statement.{statement}
+use Rattle.methods.proofs.step.Tie as tie
 
 enum-told : tie.Need-enum-told
 enum-told c = search needs
 
 step-requires : tie.Need-step-requires
-step-requires c κs =
-    let s = c .before .before .before .before .before .before .before in
-    let e = c .before .enum-told .given .1 in
-    (rw e at (s .pre .0), s .pre .1)
+step-requires c κs = ready-as (c .before .enum-told .given .1) (c .before .before .before .before .before .before .before .pre)
 
 enum-told-2 : tie.Need-enum-told-2
 enum-told-2 c = search needs
 
 step-requires-2 : tie.Need-step-requires-2
-step-requires-2 c κs =
-    let s = c .before .before .before .before .before .before .before in
-    let e = c .before .enum-told2 .given .1 in
-    (rw e at (s .pre .0), s .pre .1)
+step-requires-2 c κs = ready-as (c .before .enum-told2 .given .1) (c .before .before .before .before .before .before .before .pre)
 
 enum-told-3 : tie.Need-enum-told-3
 enum-told-3 c = search needs
 
 step-requires-3 : tie.Need-step-requires-3
-step-requires-3 c κs =
-    let s = c .before .before .before .before .before .before .before in
-    let e = c .before .enum-told3 .given .1 in
-    (rw e at (s .pre .0), s .pre .1)
+step-requires-3 c κs = ready-as (c .before .enum-told3 .given .1) (c .before .before .before .before .before .before .before .pre)
 
 enum-told-4 : tie.Need-enum-told-4
 enum-told-4 c = search needs
 
 step-requires-4 : tie.Need-step-requires-4
-step-requires-4 c κs =
-    let s = c .before .before .before .before .before .before .before in
-    let e = c .before .enum-told4 .given .1 in
-    (rw e at (s .pre .0), s .pre .1)
+step-requires-4 c κs = ready-as (c .before .enum-told4 .given .1) (c .before .before .before .before .before .before .before .pre)
 
 same-length : tie.Need-same-length
 same-length c = search needs

@@ -1,4 +1,4 @@
--- `search::hash_value::hash_by_first_bits` meets its contract. The loop's invariant: no move below m − k meets the condition.
+-- `hash::value::hash_by_first_bits` meets its contract. The loop's invariant: no move below m − k meets the condition.
 -- Assumes nothing.
 use borrow.Author.Needs.{needs}
 use mathlib.Core.Path.{_≡_, refl, ap}
@@ -10,10 +10,10 @@ use denote.Ref.{now}
 use lib.Pow.{pow-pos}
 use Rattle.rules.specs.Hash.{meets}
 use Rattle.matcher.specs.Progress.{patternOf}
 use Rattle.hash.proofs.HashSteps.{long-enough}
 use Rattle.hash.proofs.HashValues.{NoneBelow, none-more, hash-is, hash-last, one-shl, shown-first}
-use Rattle.search.proofs.hash_value.hash_by_first_bits.Statement.{statement}
-use Rattle.search.proofs.hash_value.hash_by_first_bits.Tie as tie
+use Rattle.hash.proofs.value.hash_by_first_bits.Statement.{statement}
+use Rattle.hash.proofs.value.hash_by_first_bits.Tie as tie
 
 abbrev Inv-loop : tie.InvT-loop
 Inv-loop word m value first k₀ k = (k ≤ 7) × NoneBelow (patternOf word m) value (m - k)
