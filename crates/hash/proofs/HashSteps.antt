@@ -24,11 +24,6 @@ use Rattle.rules.proofs.Occurrence.{occurs-inside}
 use Rattle.rules.proofs.Hash.{LeastMeeting, again-least, hash-compares}
 use Rattle.matcher.proofs.Writing.{stepped-none, stepped-one, stepped-no-cell}
 
--- a comparison does not look at the text's bit count
-pub matches-any : (bytes : List ℕ) (n : ℕ) (w : Pattern) (s : ℕ) → matches (textOf bytes 0) w s ≡ matches (textOf bytes n) w s
-unfolding matches
-matches-any bytes n w s = refl
-
 pub long-enough : (w : Pattern) → GoodPattern Hash w → 8 ≤ w .count
 long-enough w g = ltb-false (w .count) 8 (g .fit)
 

@@ -89,8 +89,7 @@ fn next_mark(text: &[u8], n: u32, word: &[u8], m: u32, cells: &[u64], s: Place) 
     let at = s.0;
     let v = load::byte_inside(text, Place(at + (m - 8)));
     let far = at + cells[v] as u32;
-    let limit = n - m + 1;
-    if far < limit { far } else { limit }
+    matcher::cut(far, n - m + 1)
 }
 
 // One step: the place is found just if the pattern stands there.
@@ -178,7 +177,7 @@ pub fn advance(
         at += cells[v] as u32;
     }
     Advance {
-        at: Place(if at < end { at } else { end }),
+        at: Place(matcher::cut(at, end)),
         steps: steps,
         hits: hits,
         full: false,

@@ -4,3 +4,4 @@ pub mod Progress
 pub mod Writing
 pub mod Advancing
 pub mod Shifted
+pub mod Compared

@@ -3,6 +3,8 @@
 pub mod compare;
 
 use bits::Place;
+ghost use mathlib.Core.Path.{_≡_};
+ghost use Prim.Native.Nat.{min};
 
 // What one step leaves: the next mark, how many cells of the list are written, and whether a place found none; the mark is
 // then that place.
@@ -18,4 +20,11 @@ pub struct Advance {
     pub steps: u32,
     pub hits: usize,
     pub full: bool,
+}
+
+// A mark cut down to the number of places.
+pub fn cut(mark: u32, places: u32) -> u32
+    ensures { λ r. ⌜ r ≡ min mark places ⌝ }
+{
+    if mark < places { mark } else { places }
 }

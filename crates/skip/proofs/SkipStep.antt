@@ -1,6 +1,6 @@
 -- Laws of a step of the skip method: the places that it finds are the occurrences up to 8 b + 1, one after the other.
 -- Assumes nothing.
-use Prim.Native.Nat.{ℕ, _+_, _-_, _*_, _/_, _%_, _≤_, _<_, min}
+use Prim.Native.Nat.{ℕ, _+_, _-_, _*_, _/_, _%_, _≤_, _<_, min, _^_}
 use mathlib.Core.Path.{_≡_, refl, sym, ap, _∙_}
 use mathlib.Core.Bool.{Bool, true, false}
 use mathlib.Core.List.{List, [], _∷_, _++_}
@@ -118,16 +118,17 @@ span-fits s m long = omega arith
 pub below-top : (x j : ℕ) → 0 < j → j ≤ x → x - j < x
 below-top x j g l = omega arith
 
--- a link j of a walk over the places p to 8 b, and the links that are not above `over` lie from E on
-module _ (n m b p j over : ℕ) (fits : m ≤ n) (is : over ≡ 8 * b + 1 - (n - m + 1)) (up : j + p ≤ 8 * b + 1) where
-  pub link-inside : over < j → 8 * b + 1 - j < 1 + n - m
+-- a link j of a walk over the places p to 8 b: those links lie from E on that are not above 8 b + 1 less its cut at E
+module _ (n m b p j stop : ℕ) (fits : m ≤ n) (is : stop ≡ min (8 * b + 1) (n - m + 1)) (up : j + p ≤ 8 * b + 1) where
+  pub link-inside : 8 * b + 1 - stop < j → 8 * b + 1 - j < 1 + n - m
   link-inside h = omega arith
 
-  pub link-outside : j ≤ over → j ≤ 8 * b + 1 - (1 + n - m)
+  pub link-outside : j ≤ 8 * b + 1 - stop → j ≤ 8 * b + 1 - (1 + n - m)
   link-outside h = omega arith
 
--- what a comparison at a place below E says
-pub compared : (bytes : List ℕ) (n : ℕ) (w : Pattern) (a : ℕ) → a < places (textOf bytes n) w
-    → matches (textOf bytes 0) w a ≡ occurs (textOf bytes n) w a
-unfolding matches
-compared bytes n w a h = sym (occurs-inside (textOf bytes n) w a h)
+-- a place below E is a small number
+pub place-fits : (x n m k : ℕ) → x < 1 + n - m → n ≤ k → x ≤ k
+place-fits x n m k h l = omega arith
+
+pub place-small : (x n m : ℕ) → x < 1 + n - m → n ≤ 2 ^ 30 → x < 2 ^ 32
+place-small x n m h l = omega arith

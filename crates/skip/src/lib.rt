@@ -12,7 +12,7 @@ use matcher::compare::Head;
 use rules::Method;
 ghost use mathlib.Core.Path.{_≡_};
 ghost use mathlib.Core.List.{_++_};
-ghost use Prim.Native.Nat.{_+_, _-_, _*_, _≤_, _<_, min};
+ghost use Prim.Native.Nat.{_+_, _-_, _*_, _≤_, _<_};
 ghost use lib.ListN.{length, drop, replicate};
 ghost use Rattle.bits.specs.Packed.{bitsAt};
 ghost use Rattle.rules.specs.Occurrence.{places};
@@ -67,30 +67,22 @@ pub fn prepare(word: &[u8], m: u32, cells: &mut [u64])
     enter(word, m, j, count - j, cells);
 }
 
-// The head of v's chain without the indices from k on.
-fn below(word: &[u8], m: u32, cells: &[u64], v: u8, k: u32) -> u64
-    requires { ⌜ SkipTables (patternOf (now word) m) (now cells) ⌝ }
-    requires { ⌜ (256 + m ≤ length (now cells)) × (k ≤ chained m) ⌝ }
-    ensures { λ r. ⌜ r ≡ lastShown (patternOf (now (word .entry)) m) v k ⌝ }
-{
-    let high = k as u64;
-    let mut j = cells[v as usize];
-    while high < j {
-        j = cells[(255 + j) as usize];
-    }
-    j
-}
-
-// The link to try first for the places from index k - 1 down: an index that is not chained is tried whatever it shows.
+// The link to try first for the places from index k - 1 down: the head of v's chain without the indices from k on. An index
+// that is not chained is tried whatever it shows.
 fn first_link(word: &[u8], m: u32, cells: &[u64], v: u8, k: u32) -> u64
     requires { ⌜ SkipTables (patternOf (now word) m) (now cells) ⌝ }
     requires { ⌜ (256 + m ≤ length (now cells)) × (k + 7 ≤ m) × (15 ≤ m) × (m ≤ 2048) ⌝ }
     ensures { λ r. ⌜ (r ≤ k) × (lastShown (patternOf (now (word .entry)) m) v k ≤ r) × (r ≤ chained m → lastShown (patternOf (now (word .entry)) m) v r ≡ r) ⌝ }
 {
+    let high = k as u64;
     if (m + 1) / 8 * 8 - 8 < k {
-        return k as u64;
+        return high;
     }
-    below(word, m, cells, v, k)
+    let mut j = cells[v as usize];
+    while high < j {
+        j = cells[(255 + j) as usize];
+    }
+    j
 }
 
 // The link to try after j.
@@ -108,20 +100,6 @@ fn next_link(word: &[u8], m: u32, cells: &[u64], v: u8, j: u64) -> u64
         return cells[v as usize];
     }
     j - 1
-}
-
-// By how much a mark lies over the number of places.
-fn over(mark: u32, end: u32) -> u32
-    ensures { λ r. ⌜ r ≡ mark - end ⌝ }
-{
-    if end < mark { mark - end } else { 0 }
-}
-
-// A mark cut down to the number of places.
-fn cut(mark: u32, end: u32) -> u32
-    ensures { λ r. ⌜ r ≡ min mark end ⌝ }
-{
-    if mark < end { mark } else { end }
 }
 
 // One step: the places of the chain from the mark on, rising, each compared.
@@ -142,10 +120,10 @@ pub fn step(
     ensures { λ r. ⌜ Stepped Method.Skip (textOf (now (text .entry)) n) (patternOf (now (word .entry)) m) (s .0) (now (list .entry)) had (r .at .0) (r .hits) (r .full) (now (list .exit)) ⌝ }
 {
     let at = s.0;
-    let end = n - m + 1;
     let b = (at + m) / 8 - 1;
     let top = 8 * b + 1;
-    let low = over(top, end);
+    let stop = matcher::cut(top, n - m + 1);
+    let low = top - stop;
     let v = text[b as usize];
     let mut j = first_link(word, m, cells, v, top - at);
     let mut hits = had;
@@ -165,7 +143,7 @@ pub fn step(
         j = next_link(word, m, cells, v, j);
     }
     Found {
-        at: Place(cut(top, end)),
+        at: Place(stop),
         hits: hits,
         full: false,
     }
@@ -193,7 +171,8 @@ fn chain(
 {
     let byte = b.0;
     let top = (8 * byte + 1) as u32;
-    let low = over(top, n - m + 1);
+    let stop = matcher::cut(top, n - m + 1);
+    let low = top - stop;
     let mut next = link;
     let mut written = had;
     while (low as u64) < next {
@@ -212,7 +191,7 @@ fn chain(
         next = cells[(255 + next) as usize];
     }
     Found {
-        at: Place(cut(top, n - m + 1)),
+        at: Place(stop),
         hits: written,
         full: false,
     }
@@ -282,7 +261,7 @@ pub fn advance(
         b += stride;
     }
     Advance {
-        at: Place(cut(at, end)),
+        at: Place(matcher::cut(at, end)),
         steps: steps,
         hits: hits,
         full: false,

@@ -15,9 +15,10 @@ use Rattle.rules.specs.declared.Method.the-variants.{Hash}
 use Rattle.rules.specs.Occurrence.{places, matches}
 use Rattle.matcher.specs.Progress.{textOf, patternOf, Stepped, Advanced}
 use Rattle.matcher.proofs.Chunks.{chunk-differs}
+use Rattle.matcher.proofs.Compared.{compared}
 use Rattle.matcher.proofs.Writing.{writing-length}
 use Rattle.matcher.proofs.Advancing.{advanced-none, advanced-step}
-use Rattle.hash.proofs.HashSteps.{matches-any, long-enough, CellAt, cell-at, eight-of-pattern, eight-inside, stepped-hit, stepped-miss, stepped-cut}
+use Rattle.hash.proofs.HashSteps.{long-enough, CellAt, cell-at, eight-of-pattern, eight-inside, stepped-hit, stepped-miss, stepped-cut}
 use Rattle.hash.proofs.advance.Statement.{statement}
 use Rattle.hash.proofs.advance.Tie as tie
 
@@ -46,9 +47,7 @@ cell c =
 stands : (c : tie.After-same Inv-loop μ-loop) (b : Bool) → c .same .result ≡ b
     → let a = c .before .before .before .before .before .before .before .before .before .before .before .args in
     matches (textOf (now (a .text)) (a .n)) (patternOf (now (a .word)) (a .m)) (c .before .before .before .before .before .loop .at) ≡ b
-stands c b e =
-    let a = c .before .before .before .before .before .before .before .before .before .before .before .args in
-    sym (matches-any (now (a .text)) (a .n) (patternOf (now (a .word)) (a .m)) (c .before .before .before .before .before .loop .at)) ∙ sym (c .same .ensures) ∙ e
+stands c b e = compared _ _ _ _ _ b (c .same .ensures) e
 
 -- a step more from the place of this turn, which lies before the end
 more : (c : tie.Then1 Inv-loop μ-loop) (at hits : ℕ) (no-cell : Bool) (list : List ℕ)
@@ -115,8 +114,8 @@ loop-holds c =
     let here : min (a .s .0) (places (textOf (now (a .text)) (a .n)) (patternOf (now (a .word)) (a .m))) ≡ a .s .0 = omega arith in
     (rw here (advanced-none Hash (textOf (now (a .text)) (a .n)) (patternOf (now (a .word)) (a .m)) (a .s .0) (a .budget) (now (a .list)) (a .had) (s .pre .1 .1 .1) (s .pre .1 .1 .0)), omega arith)
 
-add-t34 : tie.Need-add-t34 Inv-loop μ-loop
-add-t34 c = search needs
+add-at : tie.Need-add-at Inv-loop μ-loop
+add-at c = search needs
 
 byte-inside-requires-2 : tie.Need-byte-inside-requires-2 Inv-loop μ-loop
 byte-inside-requires-2 c κs =
@@ -164,8 +163,8 @@ shared-slice-read-at c = cell (c .before .before) .there
 cast-at : tie.Need-cast-at Inv-loop μ-loop
 cast-at c = omega (arith, cell (c .before .before) .high)
 
-add-at : tie.Need-add-at Inv-loop μ-loop
-add-at c = omega (arith, cell (c .before .before) .high)
+add-at-2 : tie.Need-add-at-2 Inv-loop μ-loop
+add-at-2 c = omega (arith, cell (c .before .before) .high)
 
 loop-less : tie.Need-loop-less Inv-loop μ-loop
 loop-less c = omega (arith, ltb-true)
@@ -173,26 +172,18 @@ loop-less c = omega (arith, ltb-true)
 loop-again : tie.Need-loop-again Inv-loop μ-loop
 loop-again c = (more (c .before .before .before) _ _ _ _ (one (c .before)), omega (arith, cell (c .before .before) .high))
 
+cut-requires : tie.Need-cut-requires Inv-loop μ-loop
+cut-requires c κs = search needs
+
 same-length-2 : tie.Need-same-length-2 Inv-loop μ-loop
 same-length-2 c = size (c .before .before)
 
 returns-2 : tie.Need-returns-2 Inv-loop μ-loop
 returns-2 c =
-    let a = c .before .before .before .before .before .before .before .before .args in
-    let l = c .before .before .loop in
-    let here : min (l .at) (places (textOf (now (a .text)) (a .n)) (patternOf (now (a .word)) (a .m))) ≡ l .at = omega arith in
-    rw here at (l .inv .0)
-
-same-length-3 : tie.Need-same-length-3 Inv-loop μ-loop
-same-length-3 c = size (c .before .before)
-
-returns-3 : tie.Need-returns-3 Inv-loop μ-loop
-returns-3 c =
     let s = c .before .before .before .before .before .before .before .before in
     let a = s .args in
-    let l = c .before .before .loop in
-    let end : min (l .at) (places (textOf (now (a .text)) (a .n)) (patternOf (now (a .word)) (a .m))) ≡ a .n - a .m + 1 = omega arith in
-    rw end at (l .inv .0)
+    let end : a .n - a .m + 1 ≡ places (textOf (now (a .text)) (a .n)) (patternOf (now (a .word)) (a .m)) = omega (arith, s .pre .0 .inside) in
+    rw (c .cut .ensures, end) (c .before .before .loop .inv .0)
 
 pub advance-spec : {M : Type 1} → statement M
 advance-spec =
@@ -205,7 +196,7 @@ advance-spec =
     sub-back
     byte-inside-requires
     loop-holds
-    add-t34
+    add-at
     byte-inside-requires-2
     add-steps
     same-requires
@@ -217,10 +208,9 @@ advance-spec =
     mul-at
     shared-slice-read-at
     cast-at
-    add-at
+    add-at-2
     loop-less
     loop-again
+    cut-requires
     same-length-2
-    returns-2
-    same-length-3
-    returns-3)
+    returns-2)

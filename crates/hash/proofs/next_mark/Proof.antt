@@ -18,11 +18,11 @@ cell c =
     let a = s .args in
     cell-at (textOf (now (a .text)) (a .n)) (patternOf (now (a .word)) (a .m)) (now (a .cells)) (s .pre .0) (a .s .0) _ (c .byte-inside .ensures)
 
-sub-limit : tie.Need-sub-limit
-sub-limit c = search needs
+sub-cut : tie.Need-sub-cut
+sub-cut c = search needs
 
-add-limit : tie.Need-add-limit
-add-limit c = search needs
+add-cut : tie.Need-add-cut
+add-cut c = search needs
 
 byte-inside-requires : tie.Need-byte-inside-requires
 byte-inside-requires c κs =
@@ -42,34 +42,32 @@ cast-far c = omega (arith, cell (c .before) .high)
 add-far : tie.Need-add-far
 add-far c = omega (arith, cell (c .before) .high)
 
-sub-limit-2 : tie.Need-sub-limit-2
-sub-limit-2 c = search needs
+sub-cut-2 : tie.Need-sub-cut-2
+sub-cut-2 c = search needs
 
-add-limit-2 : tie.Need-add-limit-2
-add-limit-2 c = search needs
+add-cut-2 : tie.Need-add-cut-2
+add-cut-2 c = search needs
+
+cut-requires : tie.Need-cut-requires
+cut-requires c κs = search needs
 
 returns : tie.Need-returns
 returns c =
     let k = cell (c .before .before) in
-    sym (k .moves ∙ omega arith)
-
-returns-2 : tie.Need-returns-2
-returns-2 c =
-    let k = cell (c .before .before) in
-    sym (k .moves ∙ omega arith)
+    c .cut .ensures ∙ sym (k .moves ∙ omega arith)
 
 pub next-mark-spec : {M : Type 1} → statement M
 next-mark-spec =
     tie.close
     (tie.spec
-    sub-limit
-    add-limit
+    sub-cut
+    add-cut
     byte-inside-requires
     mul-far
     shared-slice-read-far
     cast-far
     add-far
-    sub-limit-2
-    add-limit-2
-    returns
-    returns-2)
+    sub-cut-2
+    add-cut-2
+    cut-requires
+    returns)

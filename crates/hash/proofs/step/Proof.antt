@@ -1,13 +1,14 @@
 -- `hash::step` meets its contract: the place is found just where the pattern stands.
 -- Assumes nothing.
 use borrow.Author.Needs.{needs}
-use mathlib.Core.Path.{_≡_, sym, _∙_}
+use mathlib.Core.Path.{_≡_}
 use mathlib.Core.Bool.{Bool}
 use native.Mathlib.Omega.{arith}
 use denote.Ref.{now}
 use Rattle.rules.specs.Occurrence.{matches}
 use Rattle.matcher.specs.Progress.{textOf, patternOf}
-use Rattle.hash.proofs.HashSteps.{matches-any, stepped-hit, stepped-miss, stepped-cut}
+use Rattle.matcher.proofs.Compared.{compared}
+use Rattle.hash.proofs.HashSteps.{stepped-hit, stepped-miss, stepped-cut}
 use Rattle.hash.proofs.step.Statement.{statement}
 use Rattle.hash.proofs.step.Tie as tie
 
@@ -15,9 +16,7 @@ use Rattle.hash.proofs.step.Tie as tie
 stands-here : (c : tie.After-stands) (b : Bool) → c .stands .result ≡ b
     → let a = c .before .before .before .before .before .before .args in
     matches (textOf (now (a .text)) (a .n)) (patternOf (now (a .word)) (a .m)) (a .s .0) ≡ b
-stands-here c b e =
-    let a = c .before .before .before .before .before .before .args in
-    sym (matches-any (now (a .text)) (a .n) (patternOf (now (a .word)) (a .m)) (a .s .0)) ∙ sym (c .stands .ensures) ∙ e
+stands-here c b e = compared _ _ _ _ _ b (c .stands .ensures) e
 
 next-mark-requires : tie.Need-next-mark-requires
 next-mark-requires c κs = search needs

@@ -2,7 +2,7 @@
 -- place are written.
 -- Assumes nothing.
 use borrow.Author.Needs.{needs}
-use Prim.Native.Nat.{_+_, _-_, _*_, _≤_, _<_, min}
+use Prim.Native.Nat.{_+_, _-_, _*_, _^_, _≤_, _<_, min}
 use mathlib.Core.Path.{_≡_, sym, ap, _∙_}
 use mathlib.Core.Logic.{⊎-elim}
 use mathlib.Core.Bool.{Bool}
@@ -16,19 +16,20 @@ use Rattle.rules.specs.Skip.{lastByte}
 use Rattle.matcher.specs.Tables.{chained, lastShown}
 use Rattle.matcher.specs.Progress.{textOf, patternOf, Writing}
 use Rattle.rules.proofs.Occurrence.{places-some}
+use Rattle.matcher.proofs.Compared.{compared-place}
 use Rattle.matcher.proofs.Writing.{writing-none, writing-length}
 use Rattle.skip.proofs.SkipChain.{chained-fits, mark-byte, byteOf, shown-is, Headed, headed-within, headed-link, headed-less, headed-more, walk-start, walk-by, walk-found, walk-end}
-use Rattle.skip.proofs.SkipStep.{below-top, link-inside, link-outside, compared, written-more, skip-full, skip-whole}
+use Rattle.skip.proofs.SkipStep.{below-top, place-fits, place-small, link-inside, link-outside, written-more, skip-full, skip-whole}
 use Rattle.skip.proofs.chain.Statement.{statement}
 use Rattle.skip.proofs.chain.Tie as tie
 
 abbrev Inv-loop : tie.InvT-loop
-Inv-loop text n word m h cells link list₀ had byte top low next₀ written₀ list next written =
+Inv-loop text n word m h cells link list₀ had byte top stop low next₀ written₀ list next written =
     Headed (patternOf word m) (bitsAt text (8 * byte) 8) 0 next
     × Writing list₀ had (occurrences (textOf text n) (patternOf word m) (8 * byte + 1 - chained m) (8 * byte + 1 - next)) list written
 
 abbrev μ-loop : tie.MeasureT-loop
-μ-loop text n word m h cells link list₀ had byte top low next₀ written₀ list next written = next
+μ-loop text n word m h cells link list₀ had byte top stop low next₀ written₀ list next written = next
 
 -- the link's place is not before the mark
 from-mark : (c : tie.At-loop Inv-loop μ-loop)
@@ -50,15 +51,13 @@ inside c =
     let l = c .before .loop in
     let s = c .before .before .before .before .before .before .before in
     let a = s .args in
-    link-inside (a .n) (a .m) (a .b .0) _ (l .next) _ (s .pre .0 .inside) (c .before .before .over .ensures) (from-mark (c .before) .1) (c .loop-test .taken)
+    link-inside (a .n) (a .m) (a .b .0) _ (l .next) _ (s .pre .0 .inside) (c .before .before .cut .ensures) (from-mark (c .before) .1) (c .loop-test .taken)
 
 -- the comparison's answer
 stands : (c : tie.After-same Inv-loop μ-loop) (x : Bool) → c .same .result ≡ x
     → let a = c .before .before .before .before .before .before .before .before .args in
     occurs (textOf (now (a .text)) (a .n)) (patternOf (now (a .word)) (a .m)) (8 * a .b .0 + 1 - c .before .before .loop .next) ≡ x
-stands c x e =
-    let a = c .before .before .before .before .before .before .before .before .args in
-    sym (compared (now (a .text)) (a .n) (patternOf (now (a .word)) (a .m)) (8 * a .b .0 + 1 - c .before .before .loop .next) (inside (c .before))) ∙ sym (c .same .ensures) ∙ e
+stands c x e = compared-place _ _ _ _ _ x (c .same .ensures) e (inside (c .before))
 
 -- the link's cell is one of the table's
 linked : (c : tie.At-loop Inv-loop μ-loop) → c .loop .next + 7 ≤ c .before .before .before .before .before .before .args .m
@@ -75,14 +74,17 @@ add-top c = omega arith
 cast-top : tie.Need-cast-top Inv-loop μ-loop
 cast-top c = omega arith
 
-sub-over : tie.Need-sub-over Inv-loop μ-loop
-sub-over c = omega (arith, ltb-false)
+sub-cut : tie.Need-sub-cut Inv-loop μ-loop
+sub-cut c = omega (arith, ltb-false)
 
-add-over : tie.Need-add-over Inv-loop μ-loop
-add-over c = omega (arith, ltb-false)
+add-cut : tie.Need-add-cut Inv-loop μ-loop
+add-cut c = omega (arith, ltb-false)
 
-over-requires : tie.Need-over-requires Inv-loop μ-loop
-over-requires c κs = search needs
+cut-requires : tie.Need-cut-requires Inv-loop μ-loop
+cut-requires c κs = search needs
+
+sub-low : tie.Need-sub-low Inv-loop μ-loop
+sub-low c = omega arith
 
 loop-holds : tie.Need-loop-holds Inv-loop μ-loop
 loop-holds c =
@@ -110,12 +112,15 @@ sub-p : tie.Need-sub-p Inv-loop μ-loop
 sub-p c = omega (arith, from-mark (c .before) .1)
 
 cast-p-2 : tie.Need-cast-p-2 Inv-loop μ-loop
-cast-p-2 c = omega (arith, inside c)
+cast-p-2 c =
+    let s = c .before .before .before .before .before .before .before in
+    record { fits = place-small _ (s .args .n) (s .args .m) (inside c) (s .pre .0 .few-bits) }
 
 same-requires : tie.Need-same-requires Inv-loop μ-loop
 same-requires c κs =
     let s = c .before .before .before .before .before .before .before in
-    (omega (arith, inside c), s .pre .1 .0)
+    let g = s .pre .0 .pattern in
+    ((g .some-bits, g .few-bits, place-fits _ (s .args .n) (s .args .m) (2 ^ 30) (inside c) (s .pre .0 .few-bits)), s .pre .1 .0)
 
 same-length : tie.Need-same-length Inv-loop μ-loop
 same-length c = writing-length _ _ _ _ _ (c .before .before .before .before .loop .inv .1)
@@ -186,22 +191,13 @@ loop-again c =
           (c .before .if1 .came),
     )
 
-sub-cut : tie.Need-sub-cut Inv-loop μ-loop
-sub-cut c = omega (arith, ltb-false)
-
-add-cut : tie.Need-add-cut Inv-loop μ-loop
-add-cut c = omega (arith, ltb-false)
-
-cut-requires : tie.Need-cut-requires Inv-loop μ-loop
-cut-requires c κs = search needs
-
 same-length-2 : tie.Need-same-length-2 Inv-loop μ-loop
-same-length-2 c = writing-length _ _ _ _ _ (c .before .before .loop .inv .1)
+same-length-2 c = writing-length _ _ _ _ _ (c .before .loop .inv .1)
 
 returns-2 : tie.Need-returns-2 Inv-loop μ-loop
 returns-2 c =
-    let l = c .before .before .loop in
-    let s = c .before .before .before .before .before .before .before .before in
+    let l = c .before .loop in
+    let s = c .before .before .before .before .before .before .before in
     let a = s .args in
     let t = textOf (now (a .text)) (a .n) in
     let w = patternOf (now (a .word)) (a .m) in
@@ -209,12 +205,12 @@ returns-2 c =
     let p = 8 * b + 1 - chained (a .m) in
     let long : 15 ≤ a .m = ltb-false (a .m) 15 (s .pre .0 .pattern .fit) in
     let last : lastByte w p ≡ b = mark-byte b (a .m) (omega arith) long in
-    let low = from-mark (c .before .before) .1 in
+    let low = from-mark (c .before) .1 in
     let fits : 8 * b + 8 ≤ p + a .m = omega (arith, chained-fits (a .m) long) in
-    let behind = link-outside (a .n) (a .m) b p (l .next) _ (s .pre .0 .inside) (c .before .before .before .over .ensures) low (c .before .loop-test .left) in
+    let behind = link-outside (a .n) (a .m) b p (l .next) _ (s .pre .0 .inside) (c .before .before .cut .ensures) low (c .loop-test .left) in
     skip-whole t w p (now (a .list)) (a .had) (l .list) (l .written) (8 * b + 1 - l .next) (l .inv .1) _ long
     (rw last (walk-end t w b p (l .next) fits low behind))
-    (rw last (c .cut .ensures ∙ ap (min (8 * b + 1)) (sym (places-some t w (s .pre .0 .inside)))))
+    (rw last (c .before .before .cut .ensures ∙ ap (min (8 * b + 1)) (sym (places-some t w (s .pre .0 .inside)))))
 
 pub chain-spec : {M : Type 1} → statement M
 chain-spec =
@@ -225,9 +221,10 @@ chain-spec =
     mul-top
     add-top
     cast-top
-    sub-over
-    add-over
-    over-requires
+    sub-cut
+    add-cut
+    cut-requires
+    sub-low
     loop-holds
     cast-loop
     cast-p
@@ -244,8 +241,5 @@ chain-spec =
     shared-slice-read-next
     loop-less
     loop-again
-    sub-cut
-    add-cut
-    cut-requires
     same-length-2
     returns-2)

@@ -4,37 +4,44 @@ use borrow.Author.Needs.{needs}
 use Prim.Native.Nat.{ℕ, _+_, _-_, _*_, _/_, _^_, _≤_, _<_, min}
 use mathlib.Core.Path.{_≡_, sym, ap, _∙_}
 use mathlib.Core.Logic.{⊎-elim}
+use mathlib.Core.Bool.{Bool}
 use native.Mathlib.Omega.{arith}
 use denote.Ref.{now}
 use borrow.Author.Tests.{ltb-false}
-use Rattle.rules.specs.Occurrence.{occurrences}
+use Rattle.rules.specs.Occurrence.{occurs, occurrences}
 use Rattle.matcher.specs.Tables.{chained, lastShown}
 use Rattle.matcher.specs.Progress.{textOf, patternOf, Writing}
 use Rattle.rules.proofs.Occurrence.{places-some}
+use Rattle.matcher.proofs.Compared.{compared-place}
 use Rattle.matcher.proofs.Writing.{writing-none, writing-length}
 use Rattle.rules.proofs.Skip.{reaches-byte, contains-byte}
 use Rattle.skip.proofs.SkipChain.{byte-is, walk-start, walk-by, walk-found, walk-end}
-use Rattle.skip.proofs.SkipStep.{span-fits, below-top, link-inside, link-outside, compared, written-more, skip-full, skip-whole}
+use Rattle.skip.proofs.SkipStep.{span-fits, below-top, place-fits, place-small, link-inside, link-outside, written-more, skip-full, skip-whole}
 use Rattle.skip.proofs.step.Statement.{statement}
 use Rattle.skip.proofs.step.Tie as tie
 
 abbrev Inv-loop : tie.InvT-loop
-Inv-loop text n word m cells list₀ had at end b top low v j₀ hits₀ list j hits =
+Inv-loop text n word m cells list₀ had at b top stop low v j₀ hits₀ list j hits =
     (j + at ≤ 8 * b + 1)
     × (j ≤ chained m → lastShown (patternOf word m) v j ≡ j)
     × Writing list₀ had (occurrences (textOf text n) (patternOf word m) at (8 * b + 1 - j)) list hits
 
 abbrev μ-loop : tie.MeasureT-loop
-μ-loop text n word m cells list₀ had at end b top low v j₀ hits₀ list j hits = j
-
-place-fits : (x n m k : ℕ) → x < 1 + n - m → n ≤ k → x ≤ k
-place-fits x n m k h l = omega arith
+μ-loop text n word m cells list₀ had at b top stop low v j₀ hits₀ list j hits = j
 
 from-mark : (p j x : ℕ) → j + p ≤ x → p ≤ x - j
 from-mark p j x h = omega arith
 
 top-fits : (p m : ℕ) → p ≤ 2 ^ 30 → m ≤ 2048 → 8 * ((p + m) / 8 - 1) + 1 < 2 ^ 64
 top-fits p m h g = omega arith
+
+less-fits : (x y k : ℕ) → x < k → x - y < k
+less-fits x y k h = omega arith
+
+-- one more than the last byte's first place is a small number
+top-small : (s : tie.Start Inv-loop μ-loop) → 8 * ((s .args .s .0 + s .args .m) / 8 - 1) + 1 < 2 ^ 64
+top-small s =
+    top-fits (s .args .s .0) (s .args .m) (place-fits (s .args .s .0) (s .args .n) (s .args .m) (2 ^ 30) (s .pre .1 .1 .0) (s .pre .0 .few-bits)) (s .pre .0 .pattern .few-bits)
 
 index-fits : (p m x j : ℕ) → x - p + 7 ≤ m → j + p ≤ x → j + 7 ≤ m
 index-fits p m x j h g = omega arith
@@ -50,13 +57,13 @@ inside c =
     let l = c .before .loop in
     let s = c .before .before .before .before .before .before .before .before .before in
     let a = s .args in
-    link-inside (a .n) (a .m) ((a .s .0 + a .m) / 8 - 1) (a .s .0) (l .j) _ (s .pre .0 .inside) (c .before .before .before .before .over .ensures) (l .inv .0) (c .loop-test .taken)
+    link-inside (a .n) (a .m) ((a .s .0 + a .m) / 8 - 1) (a .s .0) (l .j) _ (s .pre .0 .inside) (c .before .before .before .before .cut .ensures) (l .inv .0) (c .loop-test .taken)
 
-sub-end : tie.Need-sub-end Inv-loop μ-loop
-sub-end c = omega (arith, ltb-false)
-
-add-end : tie.Need-add-end Inv-loop μ-loop
-add-end c = omega (arith, ltb-false)
+-- the comparison's answer
+stands-at : (c : tie.After-stands Inv-loop μ-loop) (x : Bool) → c .stands .result ≡ x
+    → let a = c .before .before .before .before .before .before .before .before .before .before .args in
+    occurs (textOf (now (a .text)) (a .n)) (patternOf (now (a .word)) (a .m)) (8 * ((a .s .0 + a .m) / 8 - 1) + 1 - c .before .before .loop .j) ≡ x
+stands-at c x e = compared-place _ _ _ _ _ x (c .stands .ensures) e (inside (c .before))
 
 add-b : tie.Need-add-b Inv-loop μ-loop
 add-b c = omega (arith, ltb-false)
@@ -70,8 +77,17 @@ mul-top c = omega (arith, ltb-false)
 add-top : tie.Need-add-top Inv-loop μ-loop
 add-top c = omega (arith, ltb-false)
 
-over-requires : tie.Need-over-requires Inv-loop μ-loop
-over-requires c κs = search needs
+sub-cut : tie.Need-sub-cut Inv-loop μ-loop
+sub-cut c = omega (arith, ltb-false)
+
+add-cut : tie.Need-add-cut Inv-loop μ-loop
+add-cut c = omega (arith, ltb-false)
+
+cut-requires : tie.Need-cut-requires Inv-loop μ-loop
+cut-requires c κs = search needs
+
+sub-low : tie.Need-sub-low Inv-loop μ-loop
+sub-low c = omega arith
 
 cast-v : tie.Need-cast-v Inv-loop μ-loop
 cast-v c = omega (arith, ltb-false)
@@ -107,13 +123,10 @@ loop-holds c =
     )
 
 cast-loop : tie.Need-cast-loop Inv-loop μ-loop
-cast-loop c = omega (arith, ltb-false)
+cast-loop c = record { fits = less-fits _ _ _ (top-small (c .before .before .before .before .before .before .before .before)) }
 
 cast-a : tie.Need-cast-a Inv-loop μ-loop
-cast-a c =
-    let s = c .before .before .before .before .before .before .before .before .before in
-    let near = place-fits (s .args .s .0) (s .args .n) (s .args .m) (2 ^ 30) (s .pre .1 .1 .0) (s .pre .0 .few-bits) in
-    record { fits = top-fits (s .args .s .0) (s .args .m) near (s .pre .0 .pattern .few-bits) }
+cast-a c = record { fits = top-small (c .before .before .before .before .before .before .before .before .before) }
 
 sub-a : tie.Need-sub-a Inv-loop μ-loop
 sub-a c = omega (arith, ltb-false)
@@ -121,7 +134,7 @@ sub-a c = omega (arith, ltb-false)
 cast-a-2 : tie.Need-cast-a-2 Inv-loop μ-loop
 cast-a-2 c =
     let s = c .before .before .before .before .before .before .before .before .before in
-    record { fits = omega (arith, place-fits _ (s .args .n) (s .args .m) (2 ^ 30) (inside c) (s .pre .0 .few-bits)) }
+    record { fits = place-small _ (s .args .n) (s .args .m) (inside c) (s .pre .0 .few-bits) }
 
 stands-requires : tie.Need-stands-requires Inv-loop μ-loop
 stands-requires c κs =
@@ -142,7 +155,7 @@ returns c =
     let w = patternOf (now (a .word)) (a .m) in
     let b = (a .s .0 + a .m) / 8 - 1 in
     let long : 15 ≤ a .m = ltb-false (a .m) 15 (s .pre .0 .pattern .fit) in
-    let found = sym (compared (now (a .text)) (a .n) w (8 * b + 1 - l .j) (inside (c .before .before .before))) ∙ sym (c .before .before .stands .ensures) ∙ c .before .if1 .taken in
+    let found = stands-at (c .before .before) _ (c .before .if1 .taken) in
     skip-full t w (a .s .0) (now (a .list)) (a .had) (l .list) (l .hits) (8 * b + 1 - l .j) (l .inv .2) long (s .pre .1 .1 .1) (from-mark (a .s .0) (l .j) (8 * b + 1) (l .inv .0))
     (below-top (8 * b + 1) (l .j) (omega arith) (omega arith)) found (c .if2 .taken)
 
@@ -177,7 +190,6 @@ loop-again c =
     let w = patternOf (now (a .word)) (a .m) in
     let b = (a .s .0 + a .m) / 8 - 1 in
     let long : 15 ≤ a .m = ltb-false (a .m) 15 (s .pre .0 .pattern .fit) in
-    let test = sym (compared (now (a .text)) (a .n) w (8 * b + 1 - l .j) (inside (c .before .before .before))) ∙ sym (c .before .before .stands .ensures) in
     let e = c .next-link .ensures in
     let byte = byte-is (now (a .text)) b (c .before .before .before .before .before .before .shared-slice-known4 .given b .fits) in
     let link = rw byte at (e .1) in
@@ -187,32 +199,29 @@ loop-again c =
       ⊎-elim
           (λ u. rw (u .2, u .3)
           (written-more t w (a .s .0) (now (a .list)) (a .had) (l .list) (l .hits) (8 * b + 1 - l .j) (l .inv .2) _
-          (walk-found t w b (a .s .0) (l .j) fits (l .inv .0) _ (e .0) link (test ∙ u .0 .taken)) (u .1 .left)))
-          (λ u. rw (u .1, u .2, walk-by t w b (a .s .0) (l .j) fits (l .inv .0) _ (e .0) link (test ∙ u .0 .left)) (l .inv .2))
+          (walk-found t w b (a .s .0) (l .j) fits (l .inv .0) _ (e .0) link (stands-at (c .before .before) _ (u .0 .taken))) (u .1 .left)))
+          (λ u. rw (u .1, u .2, walk-by t w b (a .s .0) (l .j) fits (l .inv .0) _ (e .0) link (stands-at (c .before .before) _ (u .0 .left))) (l .inv .2))
           (c .before .if1 .came),
     )
 
-cut-requires : tie.Need-cut-requires Inv-loop μ-loop
-cut-requires c κs = search needs
-
 same-length-2 : tie.Need-same-length-2 Inv-loop μ-loop
 same-length-2 c =
-    writing-length _ _ _ _ _ (c .before .before .loop .inv .2)
+    writing-length _ _ _ _ _ (c .before .loop .inv .2)
 
 returns-2 : tie.Need-returns-2 Inv-loop μ-loop
 returns-2 c =
-    let l = c .before .before .loop in
-    let s = c .before .before .before .before .before .before .before .before .before .before in
+    let l = c .before .loop in
+    let s = c .before .before .before .before .before .before .before .before .before in
     let a = s .args in
     let t = textOf (now (a .text)) (a .n) in
     let w = patternOf (now (a .word)) (a .m) in
     let b = (a .s .0 + a .m) / 8 - 1 in
     let long : 15 ≤ a .m = ltb-false (a .m) 15 (s .pre .0 .pattern .fit) in
     let fits = contains-byte w (a .s .0) long (a .s .0) (omega arith) (reaches-byte w (a .s .0) long) in
-    let last = link-outside (a .n) (a .m) b (a .s .0) (l .j) _ (s .pre .0 .inside) (c .before .before .before .before .before .over .ensures) (l .inv .0) (c .before .loop-test .left) in
+    let last = link-outside (a .n) (a .m) b (a .s .0) (l .j) _ (s .pre .0 .inside) (c .before .before .before .before .cut .ensures) (l .inv .0) (c .loop-test .left) in
     skip-whole t w (a .s .0) (now (a .list)) (a .had) (l .list) (l .hits) (8 * b + 1 - l .j) (l .inv .2) _ long
     (walk-end t w b (a .s .0) (l .j) fits (l .inv .0) last)
-    (c .cut .ensures ∙ ap (min (8 * b + 1)) (sym (places-some t w (s .pre .0 .inside))))
+    (c .before .before .before .before .cut .ensures ∙ ap (min (8 * b + 1)) (sym (places-some t w (s .pre .0 .inside))))
 
 pub step-spec : {M : Type 1} → statement M
 step-spec =
@@ -220,13 +229,14 @@ step-spec =
     (tie.spec
     Inv-loop
     μ-loop
-    sub-end
-    add-end
     add-b
     sub-b
     mul-top
     add-top
-    over-requires
+    sub-cut
+    add-cut
+    cut-requires
+    sub-low
     cast-v
     shared-slice-read-v
     sub-first-link
@@ -245,6 +255,5 @@ step-spec =
     next-link-requires
     loop-less
     loop-again
-    cut-requires
     same-length-2
     returns-2)
