@@ -2,3 +2,4 @@
 pub mod SkipChain
 pub mod SkipFilling
 pub mod SkipStep
+pub mod SkipSizes

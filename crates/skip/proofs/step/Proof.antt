@@ -2,12 +2,13 @@
 -- Assumes nothing.
 use borrow.Author.Needs.{needs}
 use Prim.Native.Nat.{ℕ, _+_, _-_, _*_, _/_, _^_, _≤_, _<_, min}
-use mathlib.Core.Path.{_≡_, sym, ap, _∙_}
+use mathlib.Core.Path.{_≡_, refl, sym, ap, _∙_}
 use mathlib.Core.Logic.{⊎-elim}
 use mathlib.Core.Bool.{Bool}
 use native.Mathlib.Omega.{arith}
 use denote.Ref.{now}
 use borrow.Author.Tests.{ltb-false}
+use lib.ListN.{length}
 use Rattle.rules.specs.Occurrence.{occurs, occurrences}
 use Rattle.matcher.specs.Tables.{chained, lastShown}
 use Rattle.matcher.specs.Progress.{textOf, patternOf, Writing}
@@ -16,6 +17,7 @@ use Rattle.matcher.proofs.Compared.{compared-place}
 use Rattle.matcher.proofs.Writing.{writing-none, writing-length}
 use Rattle.rules.proofs.Skip.{reaches-byte, contains-byte}
 use Rattle.skip.proofs.SkipChain.{byte-is, walk-start, walk-by, walk-found, walk-end}
+use Rattle.skip.proofs.SkipSizes.{Sizes, sizes, span-small, some-byte, end-fits}
 use Rattle.skip.proofs.SkipStep.{span-fits, below-top, place-fits, place-small, link-inside, link-outside, written-more, skip-full, skip-whole}
 use Rattle.skip.proofs.step.Statement.{statement}
 use Rattle.skip.proofs.step.Tie as tie
@@ -32,22 +34,20 @@ abbrev μ-loop : tie.MeasureT-loop
 from-mark : (p j x : ℕ) → j + p ≤ x → p ≤ x - j
 from-mark p j x h = omega arith
 
-top-fits : (p m : ℕ) → p ≤ 2 ^ 30 → m ≤ 2048 → 8 * ((p + m) / 8 - 1) + 1 < 2 ^ 64
-top-fits p m h g = omega arith
-
-less-fits : (x y k : ℕ) → x < k → x - y < k
-less-fits x y k h = omega arith
-
--- one more than the last byte's first place is a small number
-top-small : (s : tie.Start Inv-loop μ-loop) → 8 * ((s .args .s .0 + s .args .m) / 8 - 1) + 1 < 2 ^ 64
-top-small s =
-    top-fits (s .args .s .0) (s .args .m) (place-fits (s .args .s .0) (s .args .n) (s .args .m) (2 ^ 30) (s .pre .1 .1 .0) (s .pre .0 .few-bits)) (s .pre .0 .pattern .few-bits)
+less-fits : (x y : ℕ) → x < 2 ^ 32 → x - y < 2 ^ 64
+less-fits x y h = omega arith
 
 index-fits : (p m x j : ℕ) → x - p + 7 ≤ m → j + p ≤ x → j + 7 ≤ m
 index-fits p m x j h g = omega arith
 
 up-to : (p j x : ℕ) → j ≤ x - p → p ≤ x → j + p ≤ x
 up-to p j x h g = omega arith
+
+-- the numbers of the step fit
+fitting : (s : tie.Start Inv-loop μ-loop)
+    → let a = s .args in
+    Sizes (a .s .0) (a .n) (a .m) (length (now (a .text))) ((a .s .0 + a .m) / 8 - 1)
+fitting s = sizes _ _ _ (s .pre .0) (s .args .s .0) _ refl (s .pre .1 .1 .0)
 
 -- the link's place is below E
 inside : (c : tie.In-loop Inv-loop μ-loop)
@@ -66,22 +66,22 @@ stands-at : (c : tie.After-stands Inv-loop μ-loop) (x : Bool) → c .stands .re
 stands-at c x e = compared-place _ _ _ _ _ x (c .stands .ensures) e (inside (c .before))
 
 add-b : tie.Need-add-b Inv-loop μ-loop
-add-b c = omega (arith, ltb-false)
+add-b c = record { fits = span-small _ _ _ (c .before .before .before .before .pre .0) _ (omega (arith, c .before .before .before .before .pre .1 .1 .0)) }
 
 sub-b : tie.Need-sub-b Inv-loop μ-loop
-sub-b c = omega (arith, ltb-false)
+sub-b c = some-byte _ _ _ (c .before .before .before .before .pre .0) _
 
 mul-top : tie.Need-mul-top Inv-loop μ-loop
-mul-top c = omega (arith, ltb-false)
+mul-top c = record { fits = fitting (c .before .before .before .before) .first }
 
 add-top : tie.Need-add-top Inv-loop μ-loop
-add-top c = omega (arith, ltb-false)
+add-top c = record { fits = fitting (c .before .before .before .before) .top }
 
 sub-cut : tie.Need-sub-cut Inv-loop μ-loop
-sub-cut c = omega (arith, ltb-false)
+sub-cut c = c .before .before .before .before .pre .0 .inside
 
 add-cut : tie.Need-add-cut Inv-loop μ-loop
-add-cut c = omega (arith, ltb-false)
+add-cut c = record { fits = end-fits _ _ _ (c .before .before .before .before .pre .0) }
 
 cut-requires : tie.Need-cut-requires Inv-loop μ-loop
 cut-requires c κs = search needs
@@ -90,13 +90,13 @@ sub-low : tie.Need-sub-low Inv-loop μ-loop
 sub-low c = omega arith
 
 cast-v : tie.Need-cast-v Inv-loop μ-loop
-cast-v c = omega (arith, ltb-false)
+cast-v c = record { fits = fitting (c .before .before .before .before .before) .wide }
 
 shared-slice-read-v : tie.Need-shared-slice-read-v Inv-loop μ-loop
-shared-slice-read-v c = omega (arith, ltb-false)
+shared-slice-read-v c = fitting (c .before .before .before .before .before .before) .there
 
 sub-first-link : tie.Need-sub-first-link Inv-loop μ-loop
-sub-first-link c = omega (arith, ltb-false)
+sub-first-link c = fitting (c .before .before .before .before .before .before) .within
 
 first-link-requires : tie.Need-first-link-requires Inv-loop μ-loop
 first-link-requires c κs =
@@ -123,10 +123,10 @@ loop-holds c =
     )
 
 cast-loop : tie.Need-cast-loop Inv-loop μ-loop
-cast-loop c = record { fits = less-fits _ _ _ (top-small (c .before .before .before .before .before .before .before .before)) }
+cast-loop c = record { fits = less-fits _ _ (fitting (c .before .before .before .before .before .before .before .before) .top) }
 
 cast-a : tie.Need-cast-a Inv-loop μ-loop
-cast-a c = record { fits = top-small (c .before .before .before .before .before .before .before .before .before) }
+cast-a c = record { fits = fitting (c .before .before .before .before .before .before .before .before .before) .top-wide }
 
 sub-a : tie.Need-sub-a Inv-loop μ-loop
 sub-a c = omega (arith, ltb-false)
@@ -163,7 +163,7 @@ mul-list : tie.Need-mul-list Inv-loop μ-loop
 mul-list c = omega (arith, ltb-false)
 
 slice-write-list : tie.Need-slice-write-list Inv-loop μ-loop
-slice-write-list c = omega (arith, ltb-false)
+slice-write-list c = c .if2 .left
 
 add-hits : tie.Need-add-hits Inv-loop μ-loop
 add-hits c = omega (arith, ltb-false)

@@ -1,0 +1,49 @@
+-- The numbers of a step fit their types: stated over the mark and the two bit counts alone, so that each need is one citation.
+-- Assumes nothing.
+use Prim.Native.Nat.{ℕ, _+_, _-_, _*_, _/_, _^_, _≤_, _<_}
+use mathlib.Core.Path.{_≡_}
+use mathlib.Core.List.{List}
+use native.Mathlib.Omega.{arith}
+use borrow.Author.Tests.{ltb-false}
+use lib.ListN.{length}
+use Rattle.bits.specs.Packed.{Packed}
+use Rattle.rules.specs.declared.Method.the-variants.{Skip}
+use Rattle.rules.specs.Pattern.{Pattern}
+use Rattle.rules.specs.Occurrence.{places}
+use Rattle.matcher.specs.Progress.{Ready}
+
+-- b is the last whole byte inside the place p, of `len` bytes of text
+pub record Sizes (p n m len b : ℕ) : Type 0 where
+  pub first : 8 * b < 2 ^ 32
+  pub top : 8 * b + 1 < 2 ^ 32
+  pub top-wide : 8 * b + 1 < 2 ^ 64
+  pub wide : b < 2 ^ 64
+  pub there : b < len
+  pub within : p ≤ 8 * b + 1
+  pub goes-on : b + ((m + 1) / 8 - 1) < 2 ^ 32
+
+module _ (t : Packed) (w : Pattern) (cells : List ℕ) (ready : Ready Skip t w cells) where
+  pub long-enough : 15 ≤ w .count
+  long-enough = ltb-false (w .count) 15 (ready .pattern .fit)
+
+  pub end-fits : t .count - w .count + 1 < 2 ^ 32
+  end-fits = let few = ready .few-bits in omega arith
+
+  module _ (s : ℕ) where
+    pub span-small : s ≤ places t w → s + w .count < 2 ^ 32
+    span-small h =
+        let few = ready .few-bits in
+        let short = ready .pattern .few-bits in
+        omega arith
+
+    pub some-byte : 1 ≤ (s + w .count) / 8
+    some-byte = let long = long-enough in omega arith
+
+    pub sizes : (b : ℕ) → b ≡ (s + w .count) / 8 - 1 → s < places t w → Sizes s (t .count) (w .count) (length (t .bytes)) b
+    sizes b e h =
+        let few = ready .few-bits in
+        let there = ready .bytes-there in
+        let long = long-enough in
+        let short = ready .pattern .few-bits in
+        let inside = ready .inside in
+        record { first = omega arith; top = omega arith; top-wide = omega arith; wide = omega arith; there = omega arith; within = omega arith; goes-on = omega arith }
