@@ -171,11 +171,11 @@ fn chain(
 {
     let byte = b.0;
     let top = (8 * byte + 1) as u32;
-    let stop = matcher::cut(top, n - m + 1);
-    let low = top - stop;
+    let end = matcher::cut(top, n - m + 1);
+    let past = top - end;
     let mut next = link;
     let mut written = had;
-    while (low as u64) < next {
+    while (past as u64) < next {
         let p = (top as u64 - next) as u32;
         if compare::same(text, word, m, h, Place(p)) {
             if list.len() <= written {
@@ -191,7 +191,7 @@ fn chain(
         next = cells[(255 + next) as usize];
     }
     Found {
-        at: Place(stop),
+        at: Place(end),
         hits: written,
         full: false,
     }

@@ -24,12 +24,12 @@ use Rattle.skip.proofs.chain.Statement.{statement}
 use Rattle.skip.proofs.chain.Tie as tie
 
 abbrev Inv-loop : tie.InvT-loop
-Inv-loop text n word m h cells link list₀ had byte top stop low next₀ written₀ list next written =
+Inv-loop text n word m h cells link list₀ had byte top end past next₀ written₀ list next written =
     Headed (patternOf word m) (bitsAt text (8 * byte) 8) 0 next
     × Writing list₀ had (occurrences (textOf text n) (patternOf word m) (8 * byte + 1 - chained m) (8 * byte + 1 - next)) list written
 
 abbrev μ-loop : tie.MeasureT-loop
-μ-loop text n word m h cells link list₀ had byte top stop low next₀ written₀ list next written = next
+μ-loop text n word m h cells link list₀ had byte top end past next₀ written₀ list next written = next
 
 -- the link's place is not before the mark
 from-mark : (c : tie.At-loop Inv-loop μ-loop)
@@ -83,8 +83,8 @@ add-cut c = omega (arith, ltb-false)
 cut-requires : tie.Need-cut-requires Inv-loop μ-loop
 cut-requires c κs = search needs
 
-sub-low : tie.Need-sub-low Inv-loop μ-loop
-sub-low c = omega arith
+sub-past : tie.Need-sub-past Inv-loop μ-loop
+sub-past c = omega arith
 
 loop-holds : tie.Need-loop-holds Inv-loop μ-loop
 loop-holds c =
@@ -224,7 +224,7 @@ chain-spec =
     sub-cut
     add-cut
     cut-requires
-    sub-low
+    sub-past
     loop-holds
     cast-loop
     cast-p
