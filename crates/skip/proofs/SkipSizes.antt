@@ -22,12 +22,26 @@ pub record Sizes (p n m len b : ℕ) : Type 0 where
   pub within : p ≤ 8 * b + 1
   pub goes-on : b + ((m + 1) / 8 - 1) < 2 ^ 32
 
+-- the byte b lies inside a text of n bits and `len` bytes
+pub record ByteSizes (n len b : ℕ) : Type 0 where
+  pub first : 8 * b < 2 ^ 64
+  pub top : 8 * b + 1 < 2 ^ 32
+  pub top-wide : 8 * b + 1 < 2 ^ 64
+  pub there : b < len
+  pub less : (j : ℕ) → 8 * b + 1 - j < 2 ^ 32
+
 module _ (t : Packed) (w : Pattern) (cells : List ℕ) (ready : Ready Skip t w cells) where
   pub long-enough : 15 ≤ w .count
   long-enough = ltb-false (w .count) 15 (ready .pattern .fit)
 
   pub end-fits : t .count - w .count + 1 < 2 ^ 32
   end-fits = let few = ready .few-bits in omega arith
+
+  pub byte-sizes : (b : ℕ) → 8 * b + 8 ≤ t .count → ByteSizes (t .count) (length (t .bytes)) b
+  byte-sizes b h =
+      let few = ready .few-bits in
+      let there = ready .bytes-there in
+      record { first = omega arith; top = omega arith; top-wide = omega arith; there = omega arith; less = λ j. omega arith }
 
   module _ (s : ℕ) where
     pub span-small : s ≤ places t w → s + w .count < 2 ^ 32

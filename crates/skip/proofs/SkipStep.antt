@@ -18,7 +18,7 @@ use Rattle.matcher.specs.Tables.{chained, lastShown}
 use Rattle.matcher.specs.Progress.{textOf, Stepped, Writing, Advanced}
 use Rattle.rules.proofs.Ranges.{among-same}
 use Rattle.rules.proofs.Occurrence.{occurs-inside, occurrences-append, occurrences-one}
-use Rattle.matcher.proofs.Advancing.{advanced-step, advanced-miss}
+use Rattle.matcher.proofs.Advancing.{advanced-step}
 use Rattle.matcher.proofs.Writing.{writing-more, writing-length, stepped-whole, stepped-full}
 use Rattle.rules.proofs.Skip.{reaches-byte, contains-byte, shown-occurs}
 use Rattle.skip.proofs.SkipChain.{chained-span, byteOf, walk-start}
@@ -41,13 +41,6 @@ module _ (t : Packed) (w : Pattern) where
     pub skip-next-is : next Skip t w s ≡ min (8 * lastByte w s + 1) (places t w)
     unfolding next ahead
     skip-next-is = refl
-
-    -- no index of the step's places shows the byte
-    pub empty-chain : lastShown w (byteOf t w (lastByte w s)) (8 * lastByte w s + 1 - s) ≡ 0 → occurrences t w s (8 * lastByte w s + 1) ≡ []
-    empty-chain e =
-        let low = reaches-byte w s long in
-        rw (sub-zero (8 * lastByte w s + 1)) at
-        (walk-start t w (lastByte w s) s 0 (contains-byte w s long s (omega arith) low) (omega arith) (omega (arith, e)))
 
   module _ (s : ℕ) (before : List ℕ) (had : ℕ) (list : List ℕ) (hits a : ℕ) (u : Writing before had (occurrences t w s a) list hits) where
     -- a is written, and nothing is found before q
@@ -91,13 +84,6 @@ module _ (t : Packed) (w : Pattern) where
     ahead-is : next Skip t w at ≡ min (8 * b + 1) (places t w)
     ahead-is = rw last (skip-next-is at long)
 
-    -- its chain is empty
-    pub turn-empty : lastShown w (byteOf t w b) (chained (w .count)) ≡ 0 → Advanced Skip t w s budget before had (min (8 * b + 1) (places t w)) (steps + 1) hits false list
-    turn-empty e =
-        let none : lastShown w (byteOf t w (lastByte w at)) (8 * lastByte w at + 1 - at) ≡ 0 = rw (span, ← last) e in
-        rw ahead-is at
-        (advanced-miss Skip t w s budget before had at steps hits list room (rw here at made) inside few (skip-finds-are at long ∙ empty-chain at long none))
-
     -- its chain is walked
     pub turn-step : (at' hits' : ℕ) (no-cell : Bool) (list' : List ℕ) → Stepped Skip t w (8 * b + 1 - chained (w .count)) list hits at' hits' no-cell list'
         → Advanced Skip t w s budget before had at' (steps + 1) hits' no-cell list'
@@ -125,6 +111,13 @@ module _ (n m b p j stop : ℕ) (fits : m ≤ n) (is : stop ≡ min (8 * b + 1) 
 
   pub link-outside : j ≤ 8 * b + 1 - stop → j ≤ 8 * b + 1 - (1 + n - m)
   link-outside h = omega arith
+
+-- a place against E, as the code has it
+pub below-end : (x n m : ℕ) → m ≤ n → x < n - m + 1 → x < 1 + n - m
+below-end x n m h l = omega arith
+
+pub from-end : (x j n m : ℕ) → m ≤ n → j ≤ x → n - m + 1 ≤ x - j → j ≤ x - (1 + n - m)
+from-end x j n m h l g = omega arith
 
 -- a place below E is a small number
 pub place-fits : (x n m k : ℕ) → x < 1 + n - m → n ≤ k → x ≤ k

@@ -14,7 +14,6 @@ ghost use mathlib.Core.Path.{_≡_};
 ghost use mathlib.Core.List.{_++_};
 ghost use Prim.Native.Nat.{_+_, _-_, _*_, _≤_, _<_};
 ghost use lib.ListN.{length, drop, replicate};
-ghost use Rattle.bits.specs.Packed.{bitsAt};
 ghost use Rattle.rules.specs.Occurrence.{places};
 ghost use Rattle.skip.specs.SkipChains.{Filled};
 ghost use Rattle.matcher.specs.Tables.{cellsFor, chained, lastShown, SkipTables, Prepared};
@@ -150,7 +149,8 @@ pub fn step(
 }
 
 // The step from a mark 8 a + 1, by the last byte b that all its places contain: the places of b's chain, from its head on,
-// each compared. The mark lies as many places before 8 b + 1 as indices are chained, and the place of a link j is 8 b + 1 - j.
+// each compared until one is not below the number of places. The mark lies as many places before 8 b + 1 as indices are
+// chained, and the place of a link j is 8 b + 1 - j.
 fn chain(
     text: &[u8],
     n: u32,
@@ -159,24 +159,24 @@ fn chain(
     h: Head,
     cells: &[u64],
     b: ByteNo,
-    link: u64,
     list: &mut [u32],
     had: usize,
 ) -> Found
     requires { ⌜ Ready Method.Skip (textOf (now text) n) (patternOf (now word) m) (now cells) ⌝ }
     requires { ⌜ HeadOf (patternOf (now word) m) (h .bits) (h .cut) ⌝ }
     requires { ⌜ (chained m ≤ 8 * b .0) × (8 * b .0 + 8 ≤ n) × (had ≤ length (now list)) ⌝ }
-    requires { ⌜ link ≡ lastShown (patternOf (now word) m) (bitsAt (now text) (8 * b .0) 8) (chained m) ⌝ }
     ensures { λ r. ⌜ Stepped Method.Skip (textOf (now (text .entry)) n) (patternOf (now (word .entry)) m) (8 * b .0 + 1 - chained m) (now (list .entry)) had (r .at .0) (r .hits) (r .full) (now (list .exit)) ⌝ }
 {
     let byte = b.0;
-    let top = (8 * byte + 1) as u32;
-    let end = matcher::cut(top, n - m + 1);
-    let past = top - end;
-    let mut next = link;
+    let top = 8 * byte + 1;
+    let end = n - m + 1;
+    let mut next = cells[text[byte] as usize] as usize;
     let mut written = had;
-    while (past as u64) < next {
-        let p = (top as u64 - next) as u32;
+    while next != 0 {
+        let p = (top - next) as u32;
+        if end <= p {
+            break;
+        }
         if compare::same(text, word, m, h, Place(p)) {
             if list.len() <= written {
                 return Found {
@@ -188,10 +188,10 @@ fn chain(
             list[written] = p;
             written += 1;
         }
-        next = cells[(255 + next) as usize];
+        next = cells[255 + next] as usize;
     }
     Found {
-        at: Place(end),
+        at: Place(matcher::cut(top as u32, end)),
         hits: written,
         full: false,
     }
@@ -231,33 +231,19 @@ pub fn advance(
     let mut steps = 0u32;
     let mut hits = had;
     while at < end && steps < budget {
-        let link = cells[text[b as usize] as usize];
-        at = 8 * b + 1;
+        let found = chain(text, n, word, m, h, cells, ByteNo(b as usize), list, hits);
+        hits = found.hits;
         steps += 1;
-        if link != 0 {
-            let found = chain(
-                text,
-                n,
-                word,
-                m,
-                h,
-                cells,
-                ByteNo(b as usize),
-                link,
-                list,
-                hits,
-            );
-            hits = found.hits;
-            if found.full {
-                let stop = found.at;
-                return Advance {
-                    at: stop,
-                    steps: steps,
-                    hits: hits,
-                    full: found.full,
-                };
-            }
+        if found.full {
+            let stop = found.at;
+            return Advance {
+                at: stop,
+                steps: steps,
+                hits: hits,
+                full: true,
+            };
         }
+        at = 8 * b + 1;
         b += stride;
     }
     Advance {

@@ -2,14 +2,13 @@
 -- place are written.
 -- Assumes nothing.
 use borrow.Author.Needs.{needs}
-use Prim.Native.Nat.{_+_, _-_, _*_, _^_, _≤_, _<_, min}
+use Prim.Native.Nat.{ℕ, _+_, _-_, _*_, _^_, _≤_, _<_, min}
 use mathlib.Core.Path.{_≡_, sym, ap, _∙_}
 use mathlib.Core.Logic.{⊎-elim}
 use mathlib.Core.Bool.{Bool}
 use native.Mathlib.Omega.{arith}
 use denote.Ref.{now}
-use lib.ListN.{getD}
-use borrow.Author.Tests.{ltb-false}
+use lib.ListN.{length, getD}
 use Rattle.bits.specs.Packed.{bitsAt}
 use Rattle.rules.specs.Occurrence.{occurs, occurrences}
 use Rattle.rules.specs.Skip.{lastByte}
@@ -18,158 +17,177 @@ use Rattle.matcher.specs.Progress.{textOf, patternOf, Writing}
 use Rattle.rules.proofs.Occurrence.{places-some}
 use Rattle.matcher.proofs.Compared.{compared-place}
 use Rattle.matcher.proofs.Writing.{writing-none, writing-length}
-use Rattle.skip.proofs.SkipChain.{chained-fits, mark-byte, byteOf, shown-is, Headed, headed-within, headed-link, headed-less, headed-more, walk-start, walk-by, walk-found, walk-end}
-use Rattle.skip.proofs.SkipStep.{below-top, place-fits, place-small, link-inside, link-outside, written-more, skip-full, skip-whole}
+use Rattle.skip.proofs.SkipChain.{chained-fits, mark-byte, byteOf, byte-is, shown-is, Headed, headed-within, headed-link, headed-less, headed-more, walk-start, walk-by, walk-found, walk-end}
+use Rattle.skip.proofs.SkipSizes.{ByteSizes, byte-sizes, end-fits, long-enough}
+use Rattle.skip.proofs.SkipStep.{below-top, place-fits, below-end, from-end, written-more, skip-full, skip-whole}
 use Rattle.skip.proofs.chain.Statement.{statement}
 use Rattle.skip.proofs.chain.Tie as tie
 
 abbrev Inv-loop : tie.InvT-loop
-Inv-loop text n word m h cells link list₀ had byte top end past next₀ written₀ list next written =
+Inv-loop text n word m h cells list₀ had byte top end next₀ written₀ list next written =
     Headed (patternOf word m) (bitsAt text (8 * byte) 8) 0 next
     × Writing list₀ had (occurrences (textOf text n) (patternOf word m) (8 * byte + 1 - chained m) (8 * byte + 1 - next)) list written
 
 abbrev μ-loop : tie.MeasureT-loop
-μ-loop text n word m h cells link list₀ had byte top end past next₀ written₀ list next written = next
+μ-loop text n word m h cells list₀ had byte top end next₀ written₀ list next written = next
+
+some : {j : ℕ} → (j ≡ 0 → ⊥) → 0 < j
+some h = omega arith
+
+part-le : (j p x : ℕ) → j + p ≤ x → j ≤ x
+part-le j p x h = omega arith
+
+rest-le : (j p x : ℕ) → j + p ≤ x → p ≤ x - j
+rest-le j p x h = omega arith
+
+-- the numbers of the step fit
+fitting : (s : tie.Start Inv-loop μ-loop) → ByteSizes (s .args .n) (length (now (s .args .text))) (s .args .b .0)
+fitting s = byte-sizes _ _ _ (s .pre .0) (s .args .b .0) (s .pre .1 .1 .1)
+
+-- the link that is read first heads the chain of byte b
+head : (c : tie.After-shared-slice-known5 Inv-loop μ-loop)
+    → let a = c .before .before .before .before .before .before .args in
+    getD (now (a .cells)) (getD (now (a .text)) (a .b .0) 0) 0 ≡ lastShown (patternOf (now (a .word)) (a .m)) (byteOf (textOf (now (a .text)) (a .n)) (patternOf (now (a .word)) (a .m)) (a .b .0)) (chained (a .m))
+head c =
+    let s = c .before .before .before .before .before .before in
+    let a = s .args in
+    let byte = c .before .shared-slice-known4 .given (a .b .0) .fits in
+    s .pre .0 .tables .head-is _ byte ∙ ap (λ (v : ℕ). lastShown (patternOf (now (a .word)) (a .m)) v (chained (a .m))) (byte-is (now (a .text)) (a .b .0) byte)
 
 -- the link's place is not before the mark
 from-mark : (c : tie.At-loop Inv-loop μ-loop)
-    → let a = c .before .before .before .before .before .before .args in
+    → let a = c .before .before .before .before .before .before .before .args in
     (c .loop .next ≤ chained (a .m)) × (c .loop .next + (8 * a .b .0 + 1 - chained (a .m)) ≤ 8 * a .b .0 + 1)
 from-mark c =
-    let s = c .before .before .before .before .before .before in
-    let a = s .args in
-    let t = textOf (now (a .text)) (a .n) in
-    let w = patternOf (now (a .word)) (a .m) in
-    let near = headed-within w (now (a .cells)) (s .pre .0 .tables) (byteOf t w (a .b .0)) 0 (c .loop .next) (c .loop .inv .0) in
-    (near, omega arith)
-
--- and it is below E
-inside : (c : tie.In-loop Inv-loop μ-loop)
-    → let a = c .before .before .before .before .before .before .before .args in
-    8 * a .b .0 + 1 - c .before .loop .next < 1 + a .n - a .m
-inside c =
-    let l = c .before .loop in
     let s = c .before .before .before .before .before .before .before in
     let a = s .args in
-    link-inside (a .n) (a .m) (a .b .0) _ (l .next) _ (s .pre .0 .inside) (c .before .before .cut .ensures) (from-mark (c .before) .1) (c .loop-test .taken)
+    let near = headed-within (patternOf (now (a .word)) (a .m)) (now (a .cells)) (s .pre .0 .tables) (bitsAt (now (a .text)) (8 * a .b .0) 8) 0 (c .loop .next) (c .loop .inv .0) in
+    (near, above (c .loop .next) (chained (a .m)) (8 * a .b .0) near (s .pre .1 .1 .0))
+  where
+    above : (j k x : ℕ) → j ≤ k → k ≤ x → j + (x + 1 - k) ≤ x + 1
+    above j k x h g = omega arith
+
+-- and it is below E
+inside : (c : tie.Else1 Inv-loop μ-loop)
+    → let a = c .before .before .before .before .before .before .before .before .before .args in
+    8 * a .b .0 + 1 - c .before .before .loop .next < 1 + a .n - a .m
+inside c = below-end _ _ _ (c .before .before .before .before .before .before .before .before .before .pre .0 .inside) (c .if1 .left)
 
 -- the comparison's answer
 stands : (c : tie.After-same Inv-loop μ-loop) (x : Bool) → c .same .result ≡ x
-    → let a = c .before .before .before .before .before .before .before .before .args in
-    occurs (textOf (now (a .text)) (a .n)) (patternOf (now (a .word)) (a .m)) (8 * a .b .0 + 1 - c .before .before .loop .next) ≡ x
+    → let a = c .before .before .before .before .before .before .before .before .before .before .args in
+    occurs (textOf (now (a .text)) (a .n)) (patternOf (now (a .word)) (a .m)) (8 * a .b .0 + 1 - c .before .before .before .loop .next) ≡ x
 stands c x e = compared-place _ _ _ _ _ x (c .same .ensures) e (inside (c .before))
 
 -- the link's cell is one of the table's
-linked : (c : tie.At-loop Inv-loop μ-loop) → c .loop .next + 7 ≤ c .before .before .before .before .before .before .args .m
+linked : (c : tie.At-loop Inv-loop μ-loop) → 255 + c .loop .next < length (now (c .before .before .before .before .before .before .before .args .cells))
 linked c =
-    let s = c .before .before .before .before .before .before in
-    omega (arith, from-mark c .0, chained-fits (s .args .m) (ltb-false (s .args .m) 15 (s .pre .0 .pattern .fit)))
+    let s = c .before .before .before .before .before .before .before in
+    let long = long-enough _ _ _ (s .pre .0) in
+    cell (c .loop .next) (chained (s .args .m)) (s .args .m) (length (now (s .args .cells))) (from-mark c .0) (chained-fits (s .args .m) long) (s .pre .0 .room)
+  where
+    cell : (j k m l : ℕ) → j ≤ k → k + 7 ≤ m → 256 + m ≤ l → 255 + j < l
+    cell j k m l h g r = omega arith
 
 mul-top : tie.Need-mul-top Inv-loop μ-loop
-mul-top c = omega arith
+mul-top c = record { fits = fitting (c .before .before .before .before) .first }
 
 add-top : tie.Need-add-top Inv-loop μ-loop
-add-top c = omega arith
+add-top c = record { fits = fitting (c .before .before .before .before) .top-wide }
 
-cast-top : tie.Need-cast-top Inv-loop μ-loop
-cast-top c = omega arith
+sub-end : tie.Need-sub-end Inv-loop μ-loop
+sub-end c = c .before .before .before .before .pre .0 .inside
 
-sub-cut : tie.Need-sub-cut Inv-loop μ-loop
-sub-cut c = omega (arith, ltb-false)
+add-end : tie.Need-add-end Inv-loop μ-loop
+add-end c = record { fits = end-fits _ _ _ (c .before .before .before .before .pre .0) }
 
-add-cut : tie.Need-add-cut Inv-loop μ-loop
-add-cut c = omega (arith, ltb-false)
+shared-slice-read-next : tie.Need-shared-slice-read-next Inv-loop μ-loop
+shared-slice-read-next c = fitting (c .before .before .before .before .before) .there
 
-cut-requires : tie.Need-cut-requires Inv-loop μ-loop
-cut-requires c κs = search needs
+cast-next : tie.Need-cast-next Inv-loop μ-loop
+cast-next c = omega (arith, c .shared-slice-known4 .given (c .before .before .before .before .before .args .b .0))
 
-sub-past : tie.Need-sub-past Inv-loop μ-loop
-sub-past c = omega arith
+mul-next : tie.Need-mul-next Inv-loop μ-loop
+mul-next c = omega (arith, c .shared-slice-known4 .given (c .before .before .before .before .before .args .b .0))
+
+shared-slice-read-next-2 : tie.Need-shared-slice-read-next-2 Inv-loop μ-loop
+shared-slice-read-next-2 c = omega (arith, c .before .shared-slice-known4 .given (c .before .before .before .before .before .before .args .b .0))
 
 loop-holds : tie.Need-loop-holds Inv-loop μ-loop
 loop-holds c =
-    let s = c .before .before .before .before .before in
+    let s = c .before .before .before .before .before .before in
     let a = s .args in
     let t = textOf (now (a .text)) (a .n) in
     let w = patternOf (now (a .word)) (a .m) in
     let b = a .b .0 in
-    let head = s .pre .1 .1 .1 in
-    let fits = chained-fits (a .m) (ltb-false (a .m) 15 (s .pre .0 .pattern .fit)) in
+    let fits = chained-fits (a .m) (long-enough _ _ _ (s .pre .0)) in
     let within = shown-is w (byteOf t w b) (chained (a .m)) .within in
     let span : 8 * b + 1 - (8 * b + 1 - chained (a .m)) ≡ chained (a .m) = omega arith in
-    let none = walk-start t w b (8 * b + 1 - chained (a .m)) (a .link) (omega arith) (omega (arith, head, within)) (rw span (omega (arith, head))) in (
-      record { bound = chained (a .m); chain = head; over = omega arith; within = omega arith },
-      rw none (writing-none (now (a .list)) (a .had) (s .pre .1 .1 .0 .2)),
+    let none = walk-start t w b (8 * b + 1 - chained (a .m)) (getD (now (a .cells)) (getD (now (a .text)) b 0) 0) (omega arith) (omega (arith, head c, within)) (rw span (omega (arith, head c))) in (
+      record { bound = chained (a .m); chain = head c; over = omega arith; within = omega arith },
+      rw none (writing-none (now (a .list)) (a .had) (s .pre .1 .1 .2)),
     )
 
-cast-loop : tie.Need-cast-loop Inv-loop μ-loop
-cast-loop c = omega arith
+sub-p : tie.Need-sub-p Inv-loop μ-loop
+sub-p c = part-le _ _ _ (from-mark (c .before) .1)
 
 cast-p : tie.Need-cast-p Inv-loop μ-loop
-cast-p c = omega arith
-
-sub-p : tie.Need-sub-p Inv-loop μ-loop
-sub-p c = omega (arith, from-mark (c .before) .1)
-
-cast-p-2 : tie.Need-cast-p-2 Inv-loop μ-loop
-cast-p-2 c =
-    let s = c .before .before .before .before .before .before .before in
-    record { fits = place-small _ (s .args .n) (s .args .m) (inside c) (s .pre .0 .few-bits) }
+cast-p c = record { fits = fitting (c .before .before .before .before .before .before .before .before) .less _ }
 
 same-requires : tie.Need-same-requires Inv-loop μ-loop
 same-requires c κs =
-    let s = c .before .before .before .before .before .before .before in
+    let s = c .before .before .before .before .before .before .before .before .before in
     let g = s .pre .0 .pattern in
     ((g .some-bits, g .few-bits, place-fits _ (s .args .n) (s .args .m) (2 ^ 30) (inside c) (s .pre .0 .few-bits)), s .pre .1 .0)
 
 same-length : tie.Need-same-length Inv-loop μ-loop
-same-length c = writing-length _ _ _ _ _ (c .before .before .before .before .loop .inv .1)
+same-length c = writing-length _ _ _ _ _ (c .before .before .before .before .before .loop .inv .1)
 
 returns : tie.Need-returns Inv-loop μ-loop
 returns c =
-    let l = c .before .before .before .before .loop in
-    let s = c .before .before .before .before .before .before .before .before .before .before in
+    let l = c .before .before .before .before .before .loop in
+    let s = c .before .before .before .before .before .before .before .before .before .before .before .before in
     let a = s .args in
     let t = textOf (now (a .text)) (a .n) in
     let w = patternOf (now (a .word)) (a .m) in
     let b = a .b .0 in
     let p = 8 * b + 1 - chained (a .m) in
-    let long : 15 ≤ a .m = ltb-false (a .m) 15 (s .pre .0 .pattern .fit) in
-    let last : lastByte w p ≡ b = mark-byte b (a .m) (omega arith) long in
-    let low = from-mark (c .before .before .before .before) .1 in
-    let found = stands (c .before .before) _ (c .before .if1 .taken) in
-    skip-full t w p (now (a .list)) (a .had) (l .list) (l .written) (8 * b + 1 - l .next) (l .inv .1) long (s .pre .1 .1 .0 .2)
-    (omega (arith, low)) (rw last (below-top (8 * b + 1) (l .next) (omega arith) (omega (arith, low)))) found (c .if2 .taken)
+    let long = long-enough _ _ _ (s .pre .0) in
+    let last : lastByte w p ≡ b = mark-byte b (a .m) (s .pre .1 .1 .0) long in
+    let low = from-mark (c .before .before .before .before .before) .1 in
+    let found = stands (c .before .before) _ (c .before .if2 .taken) in
+    skip-full t w p (now (a .list)) (a .had) (l .list) (l .written) (8 * b + 1 - l .next) (l .inv .1) long (s .pre .1 .1 .2)
+    (rest-le _ _ _ low) (rw last (below-top (8 * b + 1) (l .next) (some (c .before .before .before .before .loop-test .taken)) (part-le _ _ _ low))) found (c .if3 .taken)
 
 mul-list : tie.Need-mul-list Inv-loop μ-loop
 mul-list c = omega arith
 
 slice-write-list : tie.Need-slice-write-list Inv-loop μ-loop
-slice-write-list c = omega arith
+slice-write-list c = c .if3 .left
 
 add-written : tie.Need-add-written Inv-loop μ-loop
 add-written c = omega arith
 
 add-next : tie.Need-add-next Inv-loop μ-loop
-add-next c = omega (arith, linked (c .before .before .before))
+add-next c = omega (arith, linked (c .before .before .before .before))
 
-mul-next : tie.Need-mul-next Inv-loop μ-loop
-mul-next c = omega (arith, linked (c .before .before .before))
+mul-next-2 : tie.Need-mul-next-2 Inv-loop μ-loop
+mul-next-2 c = omega (arith, linked (c .before .before .before .before))
 
-shared-slice-read-next : tie.Need-shared-slice-read-next Inv-loop μ-loop
-shared-slice-read-next c = omega (arith, linked (c .before .before .before .before))
+shared-slice-read-next-3 : tie.Need-shared-slice-read-next-3 Inv-loop μ-loop
+shared-slice-read-next-3 c = linked (c .before .before .before .before .before)
 
 loop-less : tie.Need-loop-less Inv-loop μ-loop
 loop-less c =
-    let l = c .before .before .before .before .loop in
-    let s = c .before .before .before .before .before .before .before .before .before .before in
+    let l = c .before .before .before .before .before .loop in
+    let s = c .before .before .before .before .before .before .before .before .before .before .before .before in
     let a = s .args in
-    headed-less (patternOf (now (a .word)) (a .m)) (now (a .cells)) (s .pre .0 .tables) (bitsAt (now (a .text)) (8 * a .b .0) 8) 0 (l .next) (l .inv .0) (omega arith)
+    headed-less (patternOf (now (a .word)) (a .m)) (now (a .cells)) (s .pre .0 .tables) (bitsAt (now (a .text)) (8 * a .b .0) 8) 0 (l .next) (l .inv .0) (some (c .before .before .before .before .loop-test .taken))
 
 loop-again : tie.Need-loop-again Inv-loop μ-loop
 loop-again c =
-    let l = c .before .before .before .before .loop in
-    let s = c .before .before .before .before .before .before .before .before .before .before in
+    let l = c .before .before .before .before .before .loop in
+    let s = c .before .before .before .before .before .before .before .before .before .before .before .before in
     let a = s .args in
     let t = textOf (now (a .text)) (a .n) in
     let w = patternOf (now (a .word)) (a .m) in
@@ -178,39 +196,53 @@ loop-again c =
     let cells = now (a .cells) in
     let tables = s .pre .0 .tables in
     let B = bitsAt (now (a .text)) (8 * b) 8 in
-    let fits : 8 * b + 8 ≤ p + a .m = omega (arith, chained-fits (a .m) (ltb-false (a .m) 15 (s .pre .0 .pattern .fit))) in
-    let low = from-mark (c .before .before .before .before) .1 in
-    let less = headed-less w cells tables B 0 (l .next) (l .inv .0) (omega arith) in
-    let link : lastShown w B (l .next - 1) ≤ getD cells (255 + l .next) 0 = omega (arith, headed-link w cells tables B 0 (l .next) (l .inv .0) (omega arith)) in (
-      headed-more w cells tables B 0 (l .next) (l .inv .0) (omega arith),
+    let fits : 8 * b + 8 ≤ p + a .m = omega (arith, chained-fits (a .m) (long-enough _ _ _ (s .pre .0))) in
+    let low = from-mark (c .before .before .before .before .before) .1 in
+    let more = some (c .before .before .before .before .loop-test .taken) in
+    let less = headed-less w cells tables B 0 (l .next) (l .inv .0) more in
+    let link : lastShown w B (l .next - 1) ≤ getD cells (255 + l .next) 0 = omega (arith, headed-link w cells tables B 0 (l .next) (l .inv .0) more) in (
+      headed-more w cells tables B 0 (l .next) (l .inv .0) more,
       ⊎-elim
           (λ u. rw (u .2, u .3)
           (written-more t w p (now (a .list)) (a .had) (l .list) (l .written) (8 * b + 1 - l .next) (l .inv .1) _
           (walk-found t w b p (l .next) fits low _ less link (stands (c .before .before) _ (u .0 .taken))) (u .1 .left)))
           (λ u. rw (u .1, u .2, walk-by t w b p (l .next) fits low _ less link (stands (c .before .before) _ (u .0 .left))) (l .inv .1))
-          (c .before .if1 .came),
+          (c .before .if2 .came),
     )
 
+cast-cut : tie.Need-cast-cut Inv-loop μ-loop
+cast-cut c = record { fits = fitting (c .before .before .before .before .before .before .before .before) .top }
+
+cut-requires : tie.Need-cut-requires Inv-loop μ-loop
+cut-requires c κs = search needs
+
 same-length-2 : tie.Need-same-length-2 Inv-loop μ-loop
-same-length-2 c = writing-length _ _ _ _ _ (c .before .loop .inv .1)
+same-length-2 c = writing-length _ _ _ _ _ (c .before .before .loop .inv .1)
+
+-- the links that are left are of places from E on
+behind : (c : tie.Left-loop Inv-loop μ-loop)
+    → let a = c .before .before .before .before .before .before .before .before .args in
+    c .before .loop .next ≤ 8 * a .b .0 + 1 - (1 + a .n - a .m)
+behind c =
+    let s = c .before .before .before .before .before .before .before .before in
+    ⊎-elim (λ u. omega (arith, u .left)) (λ u. from-end _ _ _ _ (s .pre .0 .inside) (part-le _ _ _ (from-mark (c .before) .1)) (u .1 .taken)) (c .loop-test .came)
 
 returns-2 : tie.Need-returns-2 Inv-loop μ-loop
 returns-2 c =
-    let l = c .before .loop in
-    let s = c .before .before .before .before .before .before .before in
+    let l = c .before .before .loop in
+    let s = c .before .before .before .before .before .before .before .before .before in
     let a = s .args in
     let t = textOf (now (a .text)) (a .n) in
     let w = patternOf (now (a .word)) (a .m) in
     let b = a .b .0 in
     let p = 8 * b + 1 - chained (a .m) in
-    let long : 15 ≤ a .m = ltb-false (a .m) 15 (s .pre .0 .pattern .fit) in
-    let last : lastByte w p ≡ b = mark-byte b (a .m) (omega arith) long in
-    let low = from-mark (c .before) .1 in
+    let long = long-enough _ _ _ (s .pre .0) in
+    let last : lastByte w p ≡ b = mark-byte b (a .m) (s .pre .1 .1 .0) long in
+    let low = from-mark (c .before .before) .1 in
     let fits : 8 * b + 8 ≤ p + a .m = omega (arith, chained-fits (a .m) long) in
-    let behind = link-outside (a .n) (a .m) b p (l .next) _ (s .pre .0 .inside) (c .before .before .cut .ensures) low (c .loop-test .left) in
     skip-whole t w p (now (a .list)) (a .had) (l .list) (l .written) (8 * b + 1 - l .next) (l .inv .1) _ long
-    (rw last (walk-end t w b p (l .next) fits low behind))
-    (rw last (c .before .before .cut .ensures ∙ ap (min (8 * b + 1)) (sym (places-some t w (s .pre .0 .inside)))))
+    (rw last (walk-end t w b p (l .next) fits low (behind (c .before))))
+    (rw last (c .cut .ensures ∙ ap (min (8 * b + 1)) (sym (places-some t w (s .pre .0 .inside)))))
 
 pub chain-spec : {M : Type 1} → statement M
 chain-spec =
@@ -220,16 +252,15 @@ chain-spec =
     μ-loop
     mul-top
     add-top
-    cast-top
-    sub-cut
-    add-cut
-    cut-requires
-    sub-past
+    sub-end
+    add-end
+    shared-slice-read-next
+    cast-next
+    mul-next
+    shared-slice-read-next-2
     loop-holds
-    cast-loop
-    cast-p
     sub-p
-    cast-p-2
+    cast-p
     same-requires
     same-length
     returns
@@ -237,9 +268,11 @@ chain-spec =
     slice-write-list
     add-written
     add-next
-    mul-next
-    shared-slice-read-next
+    mul-next-2
+    shared-slice-read-next-3
     loop-less
     loop-again
+    cast-cut
+    cut-requires
     same-length-2
     returns-2)
