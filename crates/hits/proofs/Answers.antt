@@ -10,7 +10,7 @@ use Rattle.rules.specs.declared.Method.{Method}
 use Rattle.search.specs.declared.Answer.{Answer}
 use Rattle.search.specs.declared.Refusal.{Refusal}
 use Rattle.search.specs.Verdict.{Request, verdict, machine, numberOfRefusal, RefusedAs, AcceptedAs}
-use Rattle.hits.specs.Line.{acceptedLine, refusedLine}
+use Rattle.lines.specs.Line.{acceptedLine, refusedLine}
 use Rattle.hits.specs.Report.{lineOf}
 
 pub refused-line : (x : Method) (q : Request) (r : Refusal) (list scratch : List ℕ) → RefusedAs q r list scratch

@@ -1,8 +1,2 @@
--- Laws that the proofs of several functions cite, and the theorems about the definitions.
-pub mod Reading
-pub mod Input
-pub mod Bits
-pub mod Putting
-pub mod Decimal
+-- What the proof of `search_line` cites.
 pub mod Answers
-pub mod Examples

@@ -6,7 +6,7 @@ use Rattle.rules.specs.Machine.{Run}
 use Rattle.search.specs.declared.Outcome.{Outcome}
 use Rattle.search.specs.declared.Outcome.the-variants.{Accepted, Refused}
 use Rattle.search.specs.Verdict.{Verdict, refused, accepted, numberOfRefusal}
-use Rattle.hits.specs.Line.{acceptedLine, refusedLine}
+use Rattle.lines.specs.Line.{acceptedLine, refusedLine}
 
 -- the number of a refused call; an accepted one has none, which is 0 here
 abbrev pub numberIn : Outcome → ℕ

@@ -1,15 +1,14 @@
 // Program `hits`: reads a pattern and a text as two lines of characters 0 and 1, and prints a line for each of the four
 // methods. The work is in functions on slices with contracts; `main` reads, calls and writes.
-mod line;
-mod pack;
-mod parse;
 mod report;
 
 ghost use Prim.Native.Nat.{_+_, _≤_};
 ghost use lib.ListN.{length};
 use libc::STDIN_FILENO;
 use libc::STDOUT_FILENO;
-use parse::Input;
+use lines::pack;
+use lines::parse;
+use lines::parse::Input;
 use search::Method;
 
 // Prints the line of one method. The list has cells for all places, and the scratch as many as a call asks.

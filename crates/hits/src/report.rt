@@ -1,5 +1,5 @@
 // The line of one method: the search from a fresh mark, and what it answers.
-use crate::line;
+use lines::line;
 use search::Mark;
 use search::Method;
 use search::Outcome;

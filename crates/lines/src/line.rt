@@ -1,0 +1,97 @@
+// Printing of a line into a lent buffer.
+use rules::Method;
+ghost use mathlib.Core.Path.{_≡_};
+ghost use mathlib.Core.List.{[], _∷_};
+ghost use Prim.Native.Nat.{_+_, _*_, _≤_};
+ghost use lib.ListN.{length, take};
+ghost use Rattle.lines.specs.Line.{nameOf, decimalOf, numbers, acceptedLine, refusedLine};
+ghost use Rattle.lines.specs.Inner.{Puts};
+ghost use Rattle.io.specs.Counts.{Counts};
+
+// Stores bytes from `at` on, and gives the index behind them.
+fn put(out: &mut [u8], at: usize, bytes: &[u8]) -> usize
+    requires { ⌜ at + length (now bytes) ≤ length (now out) ⌝ }
+    ensures { λ r. ⌜ Puts (now (out .entry)) at (now (bytes .entry)) r (now (out .exit)) ⌝ }
+{
+    let mut i: usize = 0;
+    while i < bytes.len() {
+        out[at + i] = bytes[i];
+        i += 1;
+    }
+    at + i
+}
+
+// Stores one byte.
+fn put_byte(out: &mut [u8], at: usize, byte: u8) -> usize
+    requires { ⌜ at + 1 ≤ length (now out) ⌝ }
+    ensures { λ r. ⌜ Puts (now (out .entry)) at (byte ∷ []) r (now (out .exit)) ⌝ }
+{
+    out[at] = byte;
+    at + 1
+}
+
+// Stores the method's name at the front.
+fn put_name(out: &mut [u8], method: Method) -> usize
+    requires { ⌜ 5 ≤ length (now out) ⌝ }
+    ensures is { λ r. ⌜ Puts (now (out .entry)) 0 (nameOf method) r (now (out .exit)) ⌝ }
+    ensures short { λ r. ⌜ r ≤ 5 ⌝ }
+{
+    match method {
+        Method::Plain => put(out, 0, b"plain"),
+        Method::Hash => put(out, 0, b"hash"),
+        Method::Skip => put(out, 0, b"skip"),
+        Method::Wide => put(out, 0, b"wide"),
+    }
+}
+
+// Stores a space and a number.
+fn put_number(out: &mut [u8], at: usize, n: u32) -> usize
+    requires { ⌜ at + 21 ≤ length (now out) ⌝ }
+    ensures is { λ r. ⌜ Puts (now (out .entry)) at (32 ∷ decimalOf n) r (now (out .exit)) ⌝ }
+    ensures short { λ r. ⌜ r ≤ at + 21 ⌝ }
+{
+    let mut digits = [0u8; 20];
+    let k = io::decimal(n as u64, &mut digits);
+    let start = put_byte(out, at, b' ');
+    put(out, start, &digits[..k])
+}
+
+// Stores the first `count` numbers of a list, each behind a space.
+fn put_numbers(out: &mut [u8], start: usize, list: &[u32], count: usize) -> usize
+    requires { ⌜ (count ≤ length (now list)) × (start + count * 21 ≤ length (now out)) ⌝ }
+    ensures is { λ r. ⌜ Puts (now (out .entry)) start (numbers (take count (now (list .entry)))) r (now (out .exit)) ⌝ }
+    ensures short { λ r. ⌜ r ≤ start + count * 21 ⌝ }
+{
+    let mut at = start;
+    let mut i: usize = 0;
+    while i < count {
+        at = put_number(out, at, list[i]);
+        i += 1;
+    }
+    at
+}
+
+// The line of an accepted call: the first `hits` cells of the list are its places.
+pub fn accepted(out: &mut [u8], method: Method, steps: u32, hits: u32, list: &[u32]) -> usize
+    requires { ⌜ (hits ≤ length (now list)) × (48 + hits * 21 ≤ length (now out)) ⌝ }
+    ensures counts { λ r. ⌜ Counts r (now (out .exit)) ⌝ }
+    ensures is { λ r. ⌜ take r (now (out .exit)) ≡ acceptedLine method steps (take hits (now (list .entry))) ⌝ }
+{
+    let a = put_name(out, method);
+    let b = put_number(out, a, steps);
+    let c = put_number(out, b, hits);
+    let d = put_numbers(out, c, list, hits as usize);
+    put_byte(out, d, 10)
+}
+
+// The line of a refused call.
+pub fn refused(out: &mut [u8], method: Method, number: u32) -> usize
+    requires { ⌜ 40 ≤ length (now out) ⌝ }
+    ensures counts { λ r. ⌜ Counts r (now (out .exit)) ⌝ }
+    ensures is { λ r. ⌜ take r (now (out .exit)) ≡ refusedLine method number ⌝ }
+{
+    let a = put_name(out, method);
+    let b = put(out, a, b" refused");
+    let c = put_number(out, b, number);
+    put_byte(out, c, 10)
+}
