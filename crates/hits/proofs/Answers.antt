@@ -1,7 +1,7 @@
 -- What a search call promises of its answer gives the line that is printed of it.
 -- Assumes nothing.
 use Prim.Native.Nat.{ℕ, _≤_}
-use mathlib.Core.Path.{_≡_, ap}
+use mathlib.Core.Path.{_≡_, _∙_}
 use mathlib.Core.List.{List}
 use native.Mathlib.Omega.{arith}
 use lib.ListN.{length, take, drop, length-append}
@@ -9,11 +9,13 @@ use lib.Seq.{take-append-seam}
 use Rattle.rules.specs.declared.Method.{Method}
 use Rattle.search.specs.declared.Answer.{Answer}
 use Rattle.search.specs.declared.Refusal.{Refusal}
-use Rattle.search.specs.Verdict.{Request, verdict, machine, numberOfRefusal, RefusedAs, AcceptedAs}
+use Rattle.search.specs.declared.Outcome.{Outcome}
+use Rattle.search.specs.declared.Outcome.the-variants.{Accepted, Refused}
+use Rattle.search.specs.Verdict.{Request, verdict, machine, numberOfRefusal, RefusedAs, AcceptedAs, Searched}
 use Rattle.lines.specs.Line.{acceptedLine, refusedLine}
-use Rattle.hits.specs.Report.{lineOf}
+use Rattle.hits.specs.Report.{asked, numberIn, lineOf}
 
-pub refused-line : (x : Method) (q : Request) (r : Refusal) (list scratch : List ℕ) → RefusedAs q r list scratch
+refused-line : (x : Method) (q : Request) (r : Refusal) (list scratch : List ℕ) → RefusedAs q r list scratch
     → refusedLine x (numberOfRefusal r) ≡ lineOf x (verdict q)
 unfolding lineOf
 refused-line x q r list scratch p = rw (p .verdict-is)
@@ -23,12 +25,48 @@ written-first : (q : Request) (a : Answer) (list scratch : List ℕ) → Accepte
 written-first q a list scratch p =
     rw (p .answer .hits, p .list-is) (take-append-seam (machine q .written) (drop (length (machine q .written)) (q .list)))
 
-pub accepted-line : (x : Method) (q : Request) (a : Answer) (list scratch : List ℕ) → AcceptedAs q a list scratch
+accepted-line : (x : Method) (q : Request) (a : Answer) (list scratch : List ℕ) → AcceptedAs q a list scratch
     → acceptedLine x (a .steps) (take (a .hits) list) ≡ lineOf x (verdict q)
 unfolding lineOf
 accepted-line x q a list scratch p =
     rw (p .verdict-is, written-first q a list scratch p, p .answer .steps)
 
-pub accepted-room : (q : Request) (a : Answer) (list scratch : List ℕ) → AcceptedAs q a list scratch → a .hits ≤ length list
+accepted-room : (q : Request) (a : Answer) (list scratch : List ℕ) → AcceptedAs q a list scratch → a .hits ≤ length list
 accepted-room q a list scratch p =
     rw (p .answer .hits, p .list-is, length-append) (omega arith)
+
+-- ---- a call of the program: its mark s is fresh, and it leaves the cells `after` and `free`
+
+module _ (text : List ℕ) (n : ℕ) (word : List ℕ) (m : ℕ) (x : Method) (list scratch : List ℕ) (s : ℕ) (o : Outcome) (after free : List ℕ) where
+  abbrev Answers : Type 0
+  Answers =
+      Searched (record {
+        text = record { bytes = text; count = n };
+        pattern = record { bytes = word; count = m };
+        method = x;
+        mark = s;
+        budget = 4294967295;
+        list = list;
+        scratch = scratch;
+      }) o after free
+
+  as-asked : s ≡ 0 → Answers → Searched (asked text n word m x list scratch) o after free
+  unfolding asked
+  as-asked fresh p = rw fresh at p
+
+  pub refused-printed : (r : Refusal) → o ≡ Refused r → s ≡ 0 → Answers → (number : ℕ) → number ≡ numberIn o → (l : List ℕ) → l ≡ refusedLine x number
+      → l ≡ lineOf x (verdict (asked text n word m x list scratch))
+  refused-printed r is fresh p number e l f =
+      let q = rw is at (as-asked fresh p) in
+      f ∙ rw (e, is) (refused-line x (asked text n word m x list scratch) r after free q)
+
+  pub accepted-printed : (a : Answer) → o ≡ Accepted a → s ≡ 0 → Answers → (l : List ℕ) → l ≡ acceptedLine x (a .steps) (take (a .hits) after)
+      → l ≡ lineOf x (verdict (asked text n word m x list scratch))
+  accepted-printed a is fresh p l f =
+      let q = rw is at (as-asked fresh p) in
+      f ∙ accepted-line x (asked text n word m x list scratch) a after free q
+
+  pub fits : (a : Answer) → o ≡ Accepted a → s ≡ 0 → Answers → a .hits ≤ length after
+  fits a is fresh p =
+      let q = rw is at (as-asked fresh p) in
+      accepted-room (asked text n word m x list scratch) a after free q

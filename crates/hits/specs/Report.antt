@@ -5,8 +5,21 @@ use Rattle.rules.specs.declared.Method.{Method}
 use Rattle.rules.specs.Machine.{Run}
 use Rattle.search.specs.declared.Outcome.{Outcome}
 use Rattle.search.specs.declared.Outcome.the-variants.{Accepted, Refused}
-use Rattle.search.specs.Verdict.{Verdict, refused, accepted, numberOfRefusal}
+use Rattle.search.specs.Verdict.{Request, Verdict, refused, accepted, numberOfRefusal}
 use Rattle.lines.specs.Line.{acceptedLine, refusedLine}
+
+-- "in each way from 0 with budget 2^32 − 1"
+unfoldable pub asked : List ℕ → ℕ → List ℕ → ℕ → Method → List ℕ → List ℕ → Request
+asked text n word m x list scratch =
+    record {
+      text = record { bytes = text; count = n };
+      pattern = record { bytes = word; count = m };
+      method = x;
+      mark = 0;
+      budget = 4294967295;
+      list = list;
+      scratch = scratch;
+    }
 
 -- the number of a refused call; an accepted one has none, which is 0 here
 abbrev pub numberIn : Outcome → ℕ

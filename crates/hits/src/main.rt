@@ -12,11 +12,20 @@ use lines::parse::Input;
 use search::Method;
 
 // Prints the line of one method. The list has cells for all places, and the scratch as many as a call asks.
-fn print(text: &[u8], n: u64, word: &[u8], m: u64, method: Method) {
+fn print(text: &[u8], n: usize, word: &[u8], m: usize, method: Method) {
     let mut list = [0u32; 4097];
     let mut scratch = [0u64; 4224];
     let mut out = [0u8; 86086];
-    let k = report::search_line(text, n, word, m, method, &mut list, &mut scratch, &mut out);
+    let k = report::search_line(
+        text,
+        n as u64,
+        word,
+        m as u64,
+        method,
+        &mut list,
+        &mut scratch,
+        &mut out,
+    );
     io::write_all(STDOUT_FILENO, &out[..k]);
 }
 
@@ -24,16 +33,18 @@ fn print(text: &[u8], n: u64, word: &[u8], m: u64, method: Method) {
 fn print_lines(input: &[u8], m: usize, n: usize)
     requires { ⌜ (m ≤ 2048) × ((n ≤ 4096) × (m + n + 2 ≤ length (now input))) ⌝ }
 {
-    let mut word = [0u8; 256];
-    let mut text = [0u8; 512];
+    let mut word_bytes = [0u8; 256];
+    let mut text_bytes = [0u8; 512];
     let start = m + 1;
     let end = start + n;
-    pack::pack(&input[..m], &mut word);
-    pack::pack(&input[start..end], &mut text);
-    print(&text, n as u64, &word, m as u64, Method::Plain);
-    print(&text, n as u64, &word, m as u64, Method::Hash);
-    print(&text, n as u64, &word, m as u64, Method::Skip);
-    print(&text, n as u64, &word, m as u64, Method::Wide);
+    pack::pack(&input[..m], &mut word_bytes);
+    pack::pack(&input[start..end], &mut text_bytes);
+    let word: &[u8] = &word_bytes;
+    let text: &[u8] = &text_bytes;
+    print(text, n, word, m, Method::Plain);
+    print(text, n, word, m, Method::Hash);
+    print(text, n, word, m, Method::Skip);
+    print(text, n, word, m, Method::Wide);
 }
 
 // Prints what the input asks for: the four lines, or that it is bad.

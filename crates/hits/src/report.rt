@@ -8,15 +8,19 @@ ghost use mathlib.Core.Path.{_≡_};
 ghost use Prim.Native.Nat.{_+_, _*_, _≤_};
 ghost use lib.ListN.{length, take};
 ghost use Rattle.io.specs.Counts.{Counts};
-ghost use Rattle.search.specs.Verdict.{numberOfRefusal, verdict};
-ghost use Rattle.hits.specs.Report.{numberIn, lineOf};
+ghost use Rattle.search.specs.Verdict.{verdict};
+ghost use Rattle.hits.specs.Report.{numberIn, lineOf, asked};
 
 // "budget 2^32 − 1"
 const BUDGET: u32 = 4294967295;
 
-fn number_of(why: Refusal) -> u32
-    ensures { λ r. ⌜ r ≡ numberOfRefusal why ⌝ }
+// The number of a refused call; an accepted one has none.
+fn number_in(outcome: Outcome) -> u32
+    ensures { λ r. ⌜ r ≡ numberIn outcome ⌝ }
 {
+    let Outcome::Refused(why) = outcome else {
+        return 0;
+    };
     match why {
         Refusal::TextTooLong => 1,
         Refusal::TextBytesMissing => 2,
@@ -25,16 +29,6 @@ fn number_of(why: Refusal) -> u32
         Refusal::PatternTooShort => 5,
         Refusal::MarkBeyondPlaces => 6,
         Refusal::ScratchTooShort => 7,
-    }
-}
-
-// The number of a refused call.
-fn number_in(outcome: Outcome) -> u32
-    ensures { λ r. ⌜ r ≡ numberIn outcome ⌝ }
-{
-    match outcome {
-        Outcome::Accepted(_) => 0,
-        Outcome::Refused(why) => number_of(why),
     }
 }
 
@@ -52,7 +46,7 @@ pub(crate) fn search_line(
 ) -> usize
     requires { ⌜ 48 + length (now list) * 21 ≤ length (now out) ⌝ }
     ensures counts { λ r. ⌜ Counts r (now (out .exit)) ⌝ }
-    ensures is { λ r. ⌜ take r (now (out .exit)) ≡ lineOf method (verdict (record { text = record { bytes = now (text .entry); count = n }; pattern = record { bytes = now (word .entry); count = m }; method = method; mark = 0; budget = 4294967295; list = now (list .entry); scratch = now (scratch .entry) })) ⌝ }
+    ensures is { λ r. ⌜ take r (now (out .exit)) ≡ lineOf method (verdict (asked (now (text .entry)) n (now (word .entry)) m method (now (list .entry)) (now (scratch .entry)))) ⌝ }
 {
     let outcome = Mark::new().search(text, n, word, m, method, BUDGET, list, scratch);
     let Outcome::Accepted(answer) = outcome else {

@@ -38,38 +38,20 @@ slice-aggregate-pack-3 c = search needs
 pack-requires-2 : tie.Need-pack-requires-2
 pack-requires-2 c κs = search needs
 
-slice-aggregate-print : tie.Need-slice-aggregate-print
-slice-aggregate-print c = search needs
+slice-aggregate-word : tie.Need-slice-aggregate-word
+slice-aggregate-word c = search needs
 
-slice-aggregate-print-2 : tie.Need-slice-aggregate-print-2
-slice-aggregate-print-2 c = search needs
+slice-aggregate-text : tie.Need-slice-aggregate-text
+slice-aggregate-text c = search needs
 
 print-requires : tie.Need-print-requires
 print-requires c κs = search needs
 
-slice-aggregate-print-3 : tie.Need-slice-aggregate-print-3
-slice-aggregate-print-3 c = search needs
-
-slice-aggregate-print-4 : tie.Need-slice-aggregate-print-4
-slice-aggregate-print-4 c = search needs
-
 print-requires-2 : tie.Need-print-requires-2
 print-requires-2 c κs = search needs
 
-slice-aggregate-print-5 : tie.Need-slice-aggregate-print-5
-slice-aggregate-print-5 c = search needs
-
-slice-aggregate-print-6 : tie.Need-slice-aggregate-print-6
-slice-aggregate-print-6 c = search needs
-
 print-requires-3 : tie.Need-print-requires-3
 print-requires-3 c κs = search needs
-
-slice-aggregate-print-7 : tie.Need-slice-aggregate-print-7
-slice-aggregate-print-7 c = search needs
-
-slice-aggregate-print-8 : tie.Need-slice-aggregate-print-8
-slice-aggregate-print-8 c = search needs
 
 print-requires-4 : tie.Need-print-requires-4
 print-requires-4 c κs = search needs
@@ -91,16 +73,10 @@ print-lines-spec =
     part-pack-end
     slice-aggregate-pack-3
     pack-requires-2
-    slice-aggregate-print
-    slice-aggregate-print-2
+    slice-aggregate-word
+    slice-aggregate-text
     print-requires
-    slice-aggregate-print-3
-    slice-aggregate-print-4
     print-requires-2
-    slice-aggregate-print-5
-    slice-aggregate-print-6
     print-requires-3
-    slice-aggregate-print-7
-    slice-aggregate-print-8
     print-requires-4
     returns)

@@ -2,7 +2,7 @@
 -- Assumes nothing.
 use native.Mathlib.Omega.{arith}
 use mathlib.Core.Path.{_∙_}
-use Rattle.hits.proofs.Answers.{refused-line, accepted-line, accepted-room}
+use Rattle.hits.proofs.Answers.{refused-printed, accepted-printed, fits}
 use borrow.Author.Needs.{needs}
 use Rattle.hits.proofs.report.search_line.Statement.{statement}
 use Rattle.hits.proofs.report.search_line.Tie as tie
@@ -36,18 +36,14 @@ same-length-3 c = search needs
 
 returns : tie.Need-returns
 returns c =
-    let p = rw (c .before .before .before .before .before .before .before .before .before .before .before .before .before .before .new .ensures) at (c .before .before .before .before .before .before .before .before .before .before .before .search .ensures) in
-    let is = c .before .before .before .before .before .enum-told .given .1 in
-    let r = rw is at p in
-    let number = rw is at (c .before .before .before .number-in .ensures) in
     let e = c .before .before .refused .ensures in
-    (e .0, e .1 ∙ rw number (refused-line _ _ _ _ _ r))
+    (e .0, refused-printed _ _ _ _ _ _ _ _ _ _ _ _ (c .before .before .before .before .before .enum-told .given .1) (c .before .before .before .before .before .before .before .before .before .before .before .before .before .before .new .ensures) (c .before .before .before .before .before .before .before .before .before .before .before .search .ensures) _ (c .before .before .before .number-in .ensures) _ (e .1))
 
 accepted-requires : tie.Need-accepted-requires
 accepted-requires c κs =
-    let r = rw (c .before .before .before .outcome .given .1) at (c .before .before .before .before .before .before .before .before .before .search .ensures) in
-    let room = accepted-room _ _ _ _ r in
-    let kept = c .before .before .before .before .before .before .before .before .before .search .kept .1 .1 .1 .1 .1 .1 .1 .0 in
+    let a = c .before .before .before .before .before .before .before .before .before in
+    let room = fits _ _ _ _ _ _ _ _ _ _ _ _ (c .before .before .before .outcome .given .1) (c .before .before .before .before .before .before .before .before .before .before .before .before .new .ensures) (a .search .ensures) in
+    let kept = a .search .kept .1 .1 .1 .1 .1 .1 .1 .0 in
     (room, omega (arith, room, kept))
 
 same-length-4 : tie.Need-same-length-4
@@ -61,10 +57,8 @@ same-length-6 c = search needs
 
 returns-2 : tie.Need-returns-2
 returns-2 c =
-    let p = rw (c .before .before .before .before .before .before .before .before .before .before .before .before .before .before .before .new .ensures) at (c .before .before .before .before .before .before .before .before .before .before .before .before .search .ensures) in
-    let r = rw (c .before .before .before .before .before .before .outcome .given .1) at p in
     let e = c .before .before .accepted .ensures in
-    (e .0, e .1 ∙ accepted-line _ _ _ _ _ r)
+    (e .0, accepted-printed _ _ _ _ _ _ _ _ _ _ _ _ (c .before .before .before .before .before .before .outcome .given .1) (c .before .before .before .before .before .before .before .before .before .before .before .before .before .before .before .new .ensures) (c .before .before .before .before .before .before .before .before .before .before .before .before .search .ensures) _ (e .1))
 
 pub search-line-spec : {M : Type 1} → statement M
 search-line-spec =
