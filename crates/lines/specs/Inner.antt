@@ -3,6 +3,9 @@ use Prim.Native.Nat.{ℕ, zero, suc, _+_, _-_, _*_, _≤_, _<_}
 use mathlib.Core.Path.{_≡_}
 use mathlib.Core.List.{List, _++_, map}
 use lib.ListN.{length, getD, take, drop}
+use Rattle.io.specs.Counts.{Counts}
+use Rattle.rules.specs.declared.Method.{Method}
+use Rattle.lines.specs.Line.{nameOf}
 use Rattle.lines.specs.Input.{bitOf, Split, noLine, line, Parsed, bad, lines}
 use Rattle.lines.specs.declared.parse.LineEnd.{LineEnd}
 use Rattle.lines.specs.declared.parse.LineEnd.the-variants.{At, Missing}
@@ -32,6 +35,12 @@ Sized s Bad = Unit
 unfoldable pub charBits : List ℕ → ℕ → ℕ → ℕ
 charBits chars p zero = 0
 charBits chars p (suc k) = charBits chars p k * 2 + bitOf (getD chars (p + k) 0)
+
+-- a method's name, in the front of some bytes
+pub record Named (x : Method) (bytes : List ℕ) (n : ℕ) : Type 0 where
+  pub is : take n bytes ≡ nameOf x
+  pub counts : Counts n bytes
+  pub short : n ≤ 5
 
 -- Bytes stored into a buffer from an index on: the index behind them, and the buffer up to there.
 pub record Puts (before : List ℕ) (at : ℕ) (bytes : List ℕ) (r : ℕ) (after : List ℕ) : Type 0 where

@@ -5,7 +5,7 @@ ghost use mathlib.Core.List.{[], _∷_};
 ghost use Prim.Native.Nat.{_+_, _*_, _≤_};
 ghost use lib.ListN.{length, take};
 ghost use Rattle.lines.specs.Line.{nameOf, decimalOf, numbers, acceptedLine, refusedLine};
-ghost use Rattle.lines.specs.Inner.{Puts};
+ghost use Rattle.lines.specs.Inner.{Named, Puts};
 ghost use Rattle.io.specs.Counts.{Counts};
 
 // Stores bytes from `at` on, and gives the index behind them.
@@ -21,13 +21,41 @@ fn put(out: &mut [u8], at: usize, bytes: &[u8]) -> usize
     at + i
 }
 
-// Stores one byte.
-fn put_byte(out: &mut [u8], at: usize, byte: u8) -> usize
-    requires { ⌜ at + 1 ≤ length (now out) ⌝ }
-    ensures { λ r. ⌜ Puts (now (out .entry)) at (byte ∷ []) r (now (out .exit)) ⌝ }
+// The names, each in the front of five bytes.
+const PLAIN: [u8; 5] = *b"plain";
+
+const HASH: [u8; 5] = *b"hash ";
+
+const SKIP: [u8; 5] = *b"skip ";
+
+const WIDE: [u8; 5] = *b"wide ";
+
+struct Name {
+    bytes: [u8; 5],
+    length: usize,
+}
+
+fn name_of(method: Method) -> Name
+    ensures { λ r. ⌜ Named method (r .bytes) (r .length) ⌝ }
 {
-    out[at] = byte;
-    at + 1
+    match method {
+        Method::Plain => Name {
+            bytes: PLAIN,
+            length: 5,
+        },
+        Method::Hash => Name {
+            bytes: HASH,
+            length: 4,
+        },
+        Method::Skip => Name {
+            bytes: SKIP,
+            length: 4,
+        },
+        Method::Wide => Name {
+            bytes: WIDE,
+            length: 4,
+        },
+    }
 }
 
 // Stores the method's name at the front.
@@ -36,12 +64,10 @@ fn put_name(out: &mut [u8], method: Method) -> usize
     ensures is { λ r. ⌜ Puts (now (out .entry)) 0 (nameOf method) r (now (out .exit)) ⌝ }
     ensures short { λ r. ⌜ r ≤ 5 ⌝ }
 {
-    match method {
-        Method::Plain => put(out, 0, b"plain"),
-        Method::Hash => put(out, 0, b"hash"),
-        Method::Skip => put(out, 0, b"skip"),
-        Method::Wide => put(out, 0, b"wide"),
-    }
+    let name = name_of(method);
+    let bytes = name.bytes;
+    let k = name.length;
+    put(out, 0, &bytes[..k])
 }
 
 // Stores a space and a number.
@@ -52,8 +78,8 @@ fn put_number(out: &mut [u8], at: usize, n: u32) -> usize
 {
     let mut digits = [0u8; 20];
     let k = io::decimal(n as u64, &mut digits);
-    let start = put_byte(out, at, b' ');
-    put(out, start, &digits[..k])
+    out[at] = b' ';
+    put(out, at + 1, &digits[..k])
 }
 
 // Stores the first `count` numbers of a list, each behind a space.
@@ -81,7 +107,8 @@ pub fn accepted(out: &mut [u8], method: Method, steps: u32, hits: u32, list: &[u
     let b = put_number(out, a, steps);
     let c = put_number(out, b, hits);
     let d = put_numbers(out, c, list, hits as usize);
-    put_byte(out, d, 10)
+    out[d] = 10;
+    d + 1
 }
 
 // The line of a refused call.
@@ -93,5 +120,6 @@ pub fn refused(out: &mut [u8], method: Method, number: u32) -> usize
     let a = put_name(out, method);
     let b = put(out, a, b" refused");
     let c = put_number(out, b, number);
-    put_byte(out, c, 10)
+    out[c] = 10;
+    c + 1
 }
