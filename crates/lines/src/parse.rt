@@ -2,7 +2,7 @@
 ghost use mathlib.Core.Path.{_≡_};
 ghost use Prim.Native.Nat.{_≤_};
 ghost use lib.ListN.{length, drop};
-ghost use Rattle.lines.specs.Input.{isDigit, readLine, fits};
+ghost use Rattle.lines.specs.Input.{readLine, fits};
 ghost use Rattle.lines.specs.Input.{parse as Input·parse};
 ghost use Rattle.lines.specs.Inner.{lineIn, EndsIn, inputIn, Sized};
 
@@ -18,12 +18,6 @@ pub enum Input {
     Bad,
 }
 
-fn is_digit(c: u8) -> bool
-    ensures { λ r. ⌜ r ≡ isDigit c ⌝ }
-{
-    c == b'0' || c == b'1'
-}
-
 // Where the line that starts at `from` ends.
 fn line_end(s: &[u8], from: usize) -> LineEnd
     requires { ⌜ from ≤ length (now s) ⌝ }
@@ -33,13 +27,11 @@ fn line_end(s: &[u8], from: usize) -> LineEnd
     let mut i = from;
     while i < s.len() {
         let c = s[i];
-        if c == 10 {
-            return LineEnd::At(i);
+        match c {
+            10 => return LineEnd::At(i),
+            b'0' | b'1' => i += 1,
+            _ => return LineEnd::Missing,
         }
-        if !is_digit(c) {
-            return LineEnd::Missing;
-        }
-        i += 1;
     }
     LineEnd::Missing // the bytes end before the line does
 }
