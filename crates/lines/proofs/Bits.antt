@@ -1,13 +1,15 @@
 -- Laws of the bits of characters as a number.
 -- Assumes nothing.
-use Prim.Native.Nat.{ℕ, zero, suc, _+_, _-_, _*_, _/_, _%_, _^_, _<_}
+use Prim.Native.Nat.{ℕ, zero, suc, _+_, _-_, _*_, _/_, _%_, _^_, _≤_, _<_}
 use mathlib.Core.Path.{_≡_, refl, sym, ap, _∙_}
 use mathlib.Core.Bool.{Bool, true, false}
 use mathlib.Core.List.{List}
 use native.Mathlib.Omega.{arith}
-use native.Mathlib.Nat.{pow-suc}
+use native.Mathlib.Nat.{pow-suc, lt-of-lt-of-le}
+use native.Mathlib.Numerals.{add-one}
+use lib.Pow.{pow-mono}
 use lib.Dec.{eqb}
-use lib.ListN.{length, getD, set, drop}
+use lib.ListN.{length, getD, set, drop, List·getD-eq-default}
 use lib.Seq.{getD-set-same, getD-set-other, drop-set-lt, drop-drop}
 use borrow.Author.Tests.{eqb-true, eqb-false}
 use Rattle.bits.specs.Packed.{weight, bitAt, bytesFor}
@@ -16,10 +18,24 @@ use Rattle.lines.specs.Input.{bitOf}
 use Rattle.lines.specs.Inner.{charBits}
 use Rattle.lines.specs.Packing.{Packs}
 
-pub chars-lt : (chars : List ℕ) (p k : ℕ) → charBits chars p k < 2 ^ k
+chars-lt : (chars : List ℕ) (p k : ℕ) → charBits chars p k < 2 ^ k
 unfolding charBits
 chars-lt chars p zero = omega arith
 chars-lt chars p (suc k) = rw pow-suc (omega (arith, chars-lt chars p k))
+
+pub chars-byte : (chars : List ℕ) (p k : ℕ) → k < 8 → charBits chars p k < 2 ^ 7
+chars-byte chars p k h = lt-of-lt-of-le (chars-lt chars p k) (pow-mono {i = k} {j = 7} (omega arith))
+
+-- one character more, and none past the last
+pub chars-more : (chars : List ℕ) (p k x : ℕ) → x ≡ charBits chars p k → x * 2 + getD chars (p + k) 0 % 2 ≡ charBits chars p (k + 1)
+unfolding charBits
+chars-more chars p k x e = rw (e, add-one k)
+
+pub chars-past : (chars : List ℕ) (p k x : ℕ) → x ≡ charBits chars p k → length chars ≤ p + k → x * 2 ≡ charBits chars p (k + 1)
+chars-past chars p k x e h =
+    let none : getD chars (p + k) 0 ≡ 0 = List·getD-eq-default {A = ℕ} chars 0 h in
+    let zero : x * 2 ≡ x * 2 + getD chars (p + k) 0 % 2 = rw none (omega arith) in
+    zero ∙ chars-more chars p k x e
 
 -- bit j from the left of k characters is character j's
 pub chars-bit : (chars : List ℕ) (p k j : ℕ) → j < k → weight (charBits chars p k) (k - 1 - j) ≡ bitOf (getD chars (p + j) 0)

@@ -1,36 +1,26 @@
 // Packing of characters 0 and 1 into bytes, the first character leftmost.
 ghost use mathlib.Core.Path.{_≡_};
-ghost use Prim.Native.Nat.{_+_, _*_, _≤_, _<_, _^_};
-ghost use lib.ListN.{length, getD};
+ghost use Prim.Native.Nat.{_+_, _≤_, _<_, _^_};
+ghost use lib.ListN.{length};
 ghost use Rattle.bits.specs.Packed.{bytesFor};
-ghost use Rattle.lines.specs.Input.{bitOf};
 ghost use Rattle.lines.specs.Inner.{charBits};
 ghost use Rattle.lines.specs.Packing.{Packs};
 
-// The bit of character p; 0 past the last one.
-fn bit(chars: &[u8], p: usize) -> u32
-    ensures is { λ r. ⌜ r ≡ bitOf (getD (now (chars .entry)) p 0) ⌝ }
-    ensures bound { λ r. ⌜ r < 2 ⌝ }
-{
-    if p < chars.len() {
-        (chars[p] % 2) as u32
-    } else {
-        0
-    }
-}
-
-// The eight characters from p on as a byte.
+// The eight characters from p on as a byte; past the last one the bits are 0.
 fn byte(chars: &[u8], p: usize) -> u8
     requires { ⌜ p + 8 < 2 ^ 32 ⌝ }
     ensures { λ r. ⌜ r ≡ charBits (now (chars .entry)) p 8 ⌝ }
 {
-    let mut x: u32 = 0;
+    let mut x: u8 = 0;
     let mut k: usize = 0;
     while k < 8 {
-        x = x * 2 + bit(chars, p + k);
+        x = x * 2;
+        if p + k < chars.len() {
+            x += chars[p + k] % 2;
+        }
         k += 1;
     }
-    x as u8
+    x
 }
 
 // Packs the characters to the front of `out`, and gives how many bytes they take.

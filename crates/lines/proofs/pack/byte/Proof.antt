@@ -1,14 +1,11 @@
 -- `lines::pack::byte` meets its contract. The loop's invariant: the characters passed are joined.
 -- Assumes nothing.
-use Prim.Native.Nat.{ℕ, _+_, _-_, _*_, _^_, _≤_, _<_}
-use mathlib.Core.Path.{_≡_, refl, ap, ap₂, _∙_}
+use Prim.Native.Nat.{_-_, _^_, _≤_, _<_}
+use mathlib.Core.Path.{_≡_, refl, _∙_}
+use mathlib.Core.Logic.{⊎-elim}
 use native.Mathlib.Omega.{arith}
-use native.Mathlib.Numerals.{add-one}
-use native.Mathlib.Nat.{lt-of-lt-of-le}
-use borrow.Author.Needs.{needs}
-use lib.Pow.{pow-mono}
 use Rattle.lines.specs.Inner.{charBits}
-use Rattle.lines.proofs.Bits.{chars-lt}
+use Rattle.lines.proofs.Bits.{chars-byte, chars-more, chars-past}
 use Rattle.lines.proofs.pack.byte.Statement.{statement}
 use Rattle.lines.proofs.pack.byte.Tie as tie
 
@@ -18,27 +15,30 @@ Inv-loop chars p x₀ k₀ x k = (k ≤ 8) × (x ≡ charBits chars p k)
 abbrev μ-loop : tie.MeasureT-loop
 μ-loop chars p x₀ k₀ x k = 8 - k
 
--- x has as many bits as characters are passed
-room : (c : tie.At-loop Inv-loop μ-loop) → c .loop .x < 2 ^ 8
+-- x has as many bits as characters are passed, so one more fits
+room : (c : tie.In-loop Inv-loop μ-loop) → c .before .loop .x < 2 ^ 7
 room c =
-    let l = c .loop in
-    rw (l .inv .1) (lt-of-lt-of-le (chars-lt _ _ (l .k)) (pow-mono {i = l .k} {j = 8} (omega arith)))
+    let l = c .before .loop in
+    rw (l .inv .1) (chars-byte _ _ (l .k) (omega arith))
 
 loop-holds : tie.Need-loop-holds Inv-loop μ-loop
 unfolding charBits
 loop-holds c = (omega arith, refl)
 
 mul-x : tie.Need-mul-x Inv-loop μ-loop
-mul-x c = omega (arith, room (c .before))
+mul-x c = omega (arith, room c)
 
-add-bit : tie.Need-add-bit Inv-loop μ-loop
-add-bit c = omega arith
-
-bit-requires : tie.Need-bit-requires Inv-loop μ-loop
-bit-requires c κs = search needs
+add-if1 : tie.Need-add-if1 Inv-loop μ-loop
+add-if1 c = omega arith
 
 add-x : tie.Need-add-x Inv-loop μ-loop
-add-x c = omega (arith, room (c .before .before))
+add-x c = omega arith
+
+shared-slice-read-x : tie.Need-shared-slice-read-x Inv-loop μ-loop
+shared-slice-read-x c = omega arith
+
+add-x-2 : tie.Need-add-x-2 Inv-loop μ-loop
+add-x-2 c = omega (arith, room (c .before .before))
 
 add-k : tie.Need-add-k Inv-loop μ-loop
 add-k c = omega arith
@@ -47,13 +47,10 @@ loop-less : tie.Need-loop-less Inv-loop μ-loop
 loop-less c = omega arith
 
 loop-again : tie.Need-loop-again Inv-loop μ-loop
-unfolding charBits
 loop-again c =
+    let a = c .before .before .before .args in
     let l = c .before .before .loop in
-    (omega arith, ap₂ (λ (u v : ℕ). u * 2 + v) (l .inv .1) (c .bit .ensures .0) ∙ rw add-one)
-
-cast-result : tie.Need-cast-result Inv-loop μ-loop
-cast-result c = omega (arith, room (c .before))
+    (omega arith, ⊎-elim (λ w. w .2 ∙ chars-more (a .chars .now) (a .p) (l .k) (l .x) (l .inv .1)) (λ w. w .1 ∙ chars-past (a .chars .now) (a .p) (l .k) (l .x) (l .inv .1) (w .0 .left)) (c .if1 .came))
 
 returns : tie.Need-returns Inv-loop μ-loop
 returns c =
@@ -69,11 +66,11 @@ byte-spec =
     μ-loop
     loop-holds
     mul-x
-    add-bit
-    bit-requires
+    add-if1
     add-x
+    shared-slice-read-x
+    add-x-2
     add-k
     loop-less
     loop-again
-    cast-result
     returns)
