@@ -1,4 +1,4 @@
--- Laws of bytes that are stored one run behind another.
+-- Laws of bytes that are stored one run after another.
 -- Assumes nothing.
 use Prim.Native.Nat.{ℕ, suc, _+_, _≤_, _<_}
 use mathlib.Core.Path.{_≡_, refl, sym, ap, _∙_}
@@ -17,7 +17,7 @@ use Rattle.lines.specs.Inner.{Puts}
 pub puts-none : (b : List ℕ) (at : ℕ) → Puts b at [] at b
 puts-none b at = record { next = sym (add-zero at); front = sym (append-nil (take at b)) }
 
--- one run behind another
+-- one run after another
 pub puts-then : {a b c xs ys : List ℕ} {at i j : ℕ} → Puts a at xs i b → Puts b i ys j c → Puts a at (xs ++ ys) j c
 puts-then {a} {b} {c} {xs} {ys} {at} {i} {j} p q =
     record {

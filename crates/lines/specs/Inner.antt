@@ -42,7 +42,7 @@ pub record Named (x : Method) (bytes : List ℕ) (n : ℕ) : Type 0 where
   pub counts : Counts n bytes
   pub short : n ≤ 5
 
--- Bytes stored into a buffer from an index on: the index behind them, and the buffer up to there.
+-- Bytes stored into a buffer from an index on: the index after them, and the buffer up to there.
 pub record Puts (before : List ℕ) (at : ℕ) (bytes : List ℕ) (r : ℕ) (after : List ℕ) : Type 0 where
   pub next : r ≡ at + length bytes
   pub front : take r after ≡ take at before ++ bytes

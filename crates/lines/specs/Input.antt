@@ -20,7 +20,7 @@ bitOf c = c % 2
 abbrev pub charOf : ℕ → ℕ
 charOf b = 48 + b
 
--- a line's bits and the bytes behind its byte 10; or the bytes start with no such line
+-- a line's bits and the bytes after its byte 10; or the bytes start with no such line
 pub data Split : Type 0 where
   noLine : Split
   line : List ℕ → List ℕ → Split

@@ -16,7 +16,7 @@ nameOf Hash = 104 ∷ 97 ∷ 115 ∷ 104 ∷ []
 nameOf Skip = 115 ∷ 107 ∷ 105 ∷ 112 ∷ []
 nameOf Wide = 119 ∷ 105 ∷ 100 ∷ 101 ∷ []
 
--- "refused", behind a space
+-- "refused", after a space
 abbrev pub refusedWord : List ℕ
 refusedWord = 32 ∷ 114 ∷ 101 ∷ 102 ∷ 117 ∷ 115 ∷ 101 ∷ 100 ∷ []
 
@@ -31,7 +31,7 @@ digitsOf (suc k) n =
 unfoldable pub decimalOf : ℕ → List ℕ
 decimalOf n = digitsOf (suc n) n
 
--- each number behind a single space
+-- each number after a single space
 unfoldable pub numbers : List ℕ → List ℕ
 numbers [] = []
 numbers (x ∷ xs) = (32 ∷ decimalOf x) ++ numbers xs

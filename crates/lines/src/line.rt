@@ -8,7 +8,7 @@ ghost use Rattle.lines.specs.Line.{nameOf, decimalOf, numbers, acceptedL
 ghost use Rattle.lines.specs.Inner.{Named, Puts};
 ghost use Rattle.io.specs.Counts.{Counts};
 
-// Stores bytes from `at` on, and gives the index behind them.
+// Stores bytes from `at` on, and gives the index after them.
 fn put(out: &mut [u8], at: usize, bytes: &[u8]) -> usize
     requires { ⌜ at + length (now bytes) ≤ length (now out) ⌝ }
     ensures { λ r. ⌜ Puts (now (out .entry)) at (now (bytes .entry)) r (now (out .exit)) ⌝ }
@@ -82,7 +82,7 @@ fn put_number(out: &mut [u8], at: usize, n: u32) -> usize
     put(out, at + 1, &digits[..k])
 }
 
-// Stores the first `count` numbers of a list, each behind a space.
+// Stores the first `count` numbers of a list, each after a space.
 fn put_numbers(out: &mut [u8], start: usize, list: &[u32], count: usize) -> usize
     requires { ⌜ (count ≤ length (now list)) × (start + count * 21 ≤ length (now out)) ⌝ }
     ensures is { λ r. ⌜ Puts (now (out .entry)) start (numbers (take count (now (list .entry)))) r (now (out .exit)) ⌝ }
