@@ -35,38 +35,30 @@ accepted-room : (q : Request) (a : Answer) (list scratch : List ℕ) → Accepte
 accepted-room q a list scratch p =
     rw (p .answer .hits, p .list-is, length-append) (omega arith)
 
--- ---- a call of the program: its mark s is fresh, and it leaves the cells `after` and `free`
+-- a call of the program, from a fresh mark, with the cells that it leaves
+pub record Call (text : List ℕ) (n : ℕ) (word : List ℕ) (m : ℕ) (x : Method) (list scratch : List ℕ) (o : Outcome) (after free : List ℕ) : Type 0 where
+  pub mark : ℕ
+  pub fresh : mark ≡ 0
+  pub promise : Searched (record { text = record { bytes = text; count = n }; pattern = record { bytes = word; count = m }; method = x; mark = mark; budget = 4294967295; list = list; scratch = scratch }) o after free
 
-module _ (text : List ℕ) (n : ℕ) (word : List ℕ) (m : ℕ) (x : Method) (list scratch : List ℕ) (s : ℕ) (o : Outcome) (after free : List ℕ) where
-  abbrev Answers : Type 0
-  Answers =
-      Searched (record {
-        text = record { bytes = text; count = n };
-        pattern = record { bytes = word; count = m };
-        method = x;
-        mark = s;
-        budget = 4294967295;
-        list = list;
-        scratch = scratch;
-      }) o after free
-
-  as-asked : s ≡ 0 → Answers → Searched (asked text n word m x list scratch) o after free
+module _ {text : List ℕ} {n : ℕ} {word : List ℕ} {m : ℕ} {x : Method} {list scratch : List ℕ} {o : Outcome} {after free : List ℕ} (call : Call text n word m x list scratch o after free) where
+  as-asked : Searched (asked text n word m x list scratch) o after free
   unfolding asked
-  as-asked fresh p = rw fresh at p
+  as-asked = rw (call .fresh) at (call .promise)
 
-  pub refused-printed : (r : Refusal) → o ≡ Refused r → s ≡ 0 → Answers → (number : ℕ) → number ≡ numberIn o → (l : List ℕ) → l ≡ refusedLine x number
+  pub refused-printed : {r : Refusal} {number : ℕ} {l : List ℕ} → o ≡ Refused r → number ≡ numberIn o → l ≡ refusedLine x number
       → l ≡ lineOf x (verdict (asked text n word m x list scratch))
-  refused-printed r is fresh p number e l f =
-      let q = rw is at (as-asked fresh p) in
+  refused-printed {r} is e f =
+      let q = rw is at as-asked in
       f ∙ rw (e, is) (refused-line x (asked text n word m x list scratch) r after free q)
 
-  pub accepted-printed : (a : Answer) → o ≡ Accepted a → s ≡ 0 → Answers → (l : List ℕ) → l ≡ acceptedLine x (a .steps) (take (a .hits) after)
+  pub accepted-printed : {a : Answer} {l : List ℕ} → o ≡ Accepted a → l ≡ acceptedLine x (a .steps) (take (a .hits) after)
       → l ≡ lineOf x (verdict (asked text n word m x list scratch))
-  accepted-printed a is fresh p l f =
-      let q = rw is at (as-asked fresh p) in
+  accepted-printed {a} is f =
+      let q = rw is at as-asked in
       f ∙ accepted-line x (asked text n word m x list scratch) a after free q
 
-  pub fits : (a : Answer) → o ≡ Accepted a → s ≡ 0 → Answers → a .hits ≤ length after
-  fits a is fresh p =
-      let q = rw is at (as-asked fresh p) in
+  pub fits : {a : Answer} → o ≡ Accepted a → a .hits ≤ length after
+  fits {a} is =
+      let q = rw is at as-asked in
       accepted-room (asked text n word m x list scratch) a after free q

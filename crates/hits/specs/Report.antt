@@ -8,7 +8,7 @@ use Rattle.search.specs.declared.Outcome.the-variants.{Accepted, Refused}
 use Rattle.search.specs.Verdict.{Request, Verdict, refused, accepted, numberOfRefusal}
 use Rattle.lines.specs.Line.{acceptedLine, refusedLine}
 
--- "in each way from 0 with budget 2^32 − 1"
+-- Document 01: the program "searches in each way from 0 with budget 2^32 − 1".
 unfoldable pub asked : List ℕ → ℕ → List ℕ → ℕ → Method → List ℕ → List ℕ → Request
 asked text n word m x list scratch =
     record {

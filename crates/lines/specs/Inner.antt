@@ -1,4 +1,4 @@
--- What the contracts of the private functions cite.
+-- What the functions promise each other: what they found in the input, and what they stored.
 use Prim.Native.Nat.{ℕ, zero, suc, _+_, _-_, _*_, _≤_, _<_}
 use mathlib.Core.Path.{_≡_}
 use mathlib.Core.List.{List, _++_, map}

@@ -1,7 +1,7 @@
 // Printing of a line into a lent buffer.
 use rules::Method;
 ghost use mathlib.Core.Path.{_≡_};
-ghost use mathlib.Core.List.{[], _∷_};
+ghost use mathlib.Core.List.{_∷_};
 ghost use Prim.Native.Nat.{_+_, _*_, _≤_};
 ghost use lib.ListN.{length, take};
 ghost use Rattle.lines.specs.Line.{nameOf, decimalOf, numbers, acceptedLine, refusedLine};
@@ -30,31 +30,17 @@ const SKIP: [u8; 5] = *b"skip ";
 
 const WIDE: [u8; 5] = *b"wide ";
 
-struct Name {
-    bytes: [u8; 5],
-    length: usize,
-}
+// Five bytes, and how many of them are the name.
+struct Name([u8; 5], usize);
 
 fn name_of(method: Method) -> Name
-    ensures { λ r. ⌜ Named method (r .bytes) (r .length) ⌝ }
+    ensures { λ r. ⌜ Named method (r .0) (r .1) ⌝ }
 {
     match method {
-        Method::Plain => Name {
-            bytes: PLAIN,
-            length: 5,
-        },
-        Method::Hash => Name {
-            bytes: HASH,
-            length: 4,
-        },
-        Method::Skip => Name {
-            bytes: SKIP,
-            length: 4,
-        },
-        Method::Wide => Name {
-            bytes: WIDE,
-            length: 4,
-        },
+        Method::Plain => Name(PLAIN, 5),
+        Method::Hash => Name(HASH, 4),
+        Method::Skip => Name(SKIP, 4),
+        Method::Wide => Name(WIDE, 4),
     }
 }
 
@@ -65,8 +51,8 @@ fn put_name(out: &mut [u8], method: Method) -> usize
     ensures short { λ r. ⌜ r ≤ 5 ⌝ }
 {
     let name = name_of(method);
-    let bytes = name.bytes;
-    let k = name.length;
+    let bytes = name.0;
+    let k = name.1;
     put(out, 0, &bytes[..k])
 }
 

@@ -1,8 +1,7 @@
 -- `hits::report::search_line` meets its contract: the call's promise decides which line is printed.
 -- Assumes nothing.
 use native.Mathlib.Omega.{arith}
-use mathlib.Core.Path.{_∙_}
-use Rattle.hits.proofs.Answers.{refused-printed, accepted-printed, fits}
+use Rattle.hits.proofs.Answers.{Call, refused-printed, accepted-printed, fits}
 use borrow.Author.Needs.{needs}
 use Rattle.hits.proofs.report.search_line.Statement.{statement}
 use Rattle.hits.proofs.report.search_line.Tie as tie
@@ -34,15 +33,19 @@ same-length-2 c = search needs
 same-length-3 : tie.Need-same-length-3
 same-length-3 c = search needs
 
+-- what the search promised
+made : (c : tie.After-search) → (let a = c .before .before .before .before .before .before .before .before .before .args in Call (a .text .now) (a .n) (a .word .now) (a .m) (a .method) (a .list .now) (a .scratch .now) (c .search .result) (c .search .last .1 .1 .1 .1 .1 .1 .1 .0) (c .search .last .1 .1 .1 .1 .1 .1 .1 .1 .0))
+made c = record { mark = _; fresh = c .before .before .before .new .ensures; promise = c .search .ensures }
+
 returns : tie.Need-returns
 returns c =
     let e = c .before .before .refused .ensures in
-    (e .0, refused-printed _ _ _ _ _ _ _ _ _ _ _ _ (c .before .before .before .before .before .enum-told .given .1) (c .before .before .before .before .before .before .before .before .before .before .before .before .before .before .new .ensures) (c .before .before .before .before .before .before .before .before .before .before .before .search .ensures) _ (c .before .before .before .number-in .ensures) _ (e .1))
+    (e .0, refused-printed (made (c .before .before .before .before .before .before .before .before .before .before .before)) (c .before .before .before .before .before .enum-told .given .1) (c .before .before .before .number-in .ensures) (e .1))
 
 accepted-requires : tie.Need-accepted-requires
 accepted-requires c κs =
     let a = c .before .before .before .before .before .before .before .before .before in
-    let room = fits _ _ _ _ _ _ _ _ _ _ _ _ (c .before .before .before .outcome .given .1) (c .before .before .before .before .before .before .before .before .before .before .before .before .new .ensures) (a .search .ensures) in
+    let room = fits (made a) (c .before .before .before .outcome .given .1) in
     let kept = a .search .kept .1 .1 .1 .1 .1 .1 .1 .0 in
     (room, omega (arith, room, kept))
 
@@ -58,7 +61,7 @@ same-length-6 c = search needs
 returns-2 : tie.Need-returns-2
 returns-2 c =
     let e = c .before .before .accepted .ensures in
-    (e .0, accepted-printed _ _ _ _ _ _ _ _ _ _ _ _ (c .before .before .before .before .before .before .outcome .given .1) (c .before .before .before .before .before .before .before .before .before .before .before .before .before .before .before .new .ensures) (c .before .before .before .before .before .before .before .before .before .before .before .before .search .ensures) _ (e .1))
+    (e .0, accepted-printed (made (c .before .before .before .before .before .before .before .before .before .before .before .before)) (c .before .before .before .before .before .before .outcome .given .1) (e .1))
 
 pub search-line-spec : {M : Type 1} → statement M
 search-line-spec =
