@@ -20,6 +20,7 @@ pub record Sizes (p n m len b : ℕ) : Type 0 where
   pub wide : b < 2 ^ 64
   pub there : b < len
   pub within : p ≤ 8 * b + 1
+  pub all-eight : 8 * b + 8 < 2 ^ 32
   pub goes-on : b + ((m + 1) / 8 - 1) < 2 ^ 32
 
 -- the byte b lies inside a text of n bits and `len` bytes
@@ -60,4 +61,4 @@ module _ (t : Packed) (w : Pattern) (cells : List ℕ) (ready : Ready Skip t w c
         let long = long-enough in
         let short = ready .pattern .few-bits in
         let inside = ready .inside in
-        record { first = omega arith; top = omega arith; top-wide = omega arith; wide = omega arith; there = omega arith; within = omega arith; goes-on = omega arith }
+        record { first = omega arith; top = omega arith; top-wide = omega arith; wide = omega arith; there = omega arith; within = omega arith; all-eight = omega arith; goes-on = omega arith }

@@ -126,10 +126,12 @@ mul-at : tie.Need-mul-at Inv-loop μ-loop
 mul-at c = record { fits = fitting (c .before .before .before .before .before .before) .first }
 
 add-at : tie.Need-add-at Inv-loop μ-loop
-add-at c = record { fits = fitting (c .before .before .before .before .before .before) .top }
+add-at c = omega (arith, fitting (c .before .before .before .before .before .before) .all-eight)
 
 add-b-2 : tie.Need-add-b-2 Inv-loop μ-loop
-add-b-2 c = record { fits = fitting (c .before .before .before .before .before .before) .goes-on }
+add-b-2 c =
+    let f = fitting (c .before .before .before .before .before .before) in
+    omega (arith, f .goes-on, f .all-eight)
 
 loop-less : tie.Need-loop-less Inv-loop μ-loop
 loop-less c = omega (arith, left (c .before .before .before .before .before))
