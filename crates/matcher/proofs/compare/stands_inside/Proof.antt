@@ -1,35 +1,18 @@
 -- `matcher::compare::stands_inside` meets its contract. A short pattern is one load; else the loop's invariant is that the bits
--- passed, whole bytes, agree.
+-- passed, whole bytes, agree (`Passed`).
 -- Assumes nothing.
 use borrow.Author.Needs.{needs}
-use mathlib.Core.Path.{_≡_, sym, _∙_, ap, ap₂}
-use Prim.Native.Nat.{ℕ, zero, _+_, _-_, _*_, _/_, _%_, _^_, _≤_, _<_}
+use Prim.Native.Nat.{_-_}
 use native.Mathlib.Omega.{arith}
-use native.Mathlib.Nat.{add-zero}
-use denote.Ref.{now}
-use lib.Dec.{eqb}
-use Rattle.bits.specs.Packed.{bitsAt}
-use Rattle.bits.proofs.Run.{bits-first}
-use Rattle.matcher.specs.Progress.{textOf, patternOf}
-use Rattle.matcher.proofs.Chunks.{AgreesTo, agrees-more, chunk-differs, chunk-decides}
+use Rattle.matcher.proofs.Chunks.{Passed, one-load, none-passed, next-byte, next-differs, next-agrees, last-decides}
 use Rattle.matcher.proofs.compare.stands_inside.Statement.{statement}
 use Rattle.matcher.proofs.compare.stands_inside.Tie as tie
 
 abbrev Inv-loop : tie.InvT-loop
-Inv-loop text word m at o₀ o = (o < m) × (o % 8 ≡ 0) × AgreesTo (textOf text 0) (patternOf word m) at o
+Inv-loop text word m at o₀ o = Passed text word m at o
 
 abbrev μ-loop : tie.MeasureT-loop
 μ-loop text word m at o₀ o = m - o
-
--- the load of the pattern's next 64 bits
-next-bits : (c : tie.After-word-at-byte2 Inv-loop μ-loop)
-    → let a = c .before .before .before .before .before .before .before .args in
-    c .word-at-byte2 .result ≡ bitsAt (now (a .word)) (c .before .before .before .loop .o) 64
-next-bits c =
-    let a = c .before .before .before .before .before .before .before .args in
-    let l = c .before .before .before .loop in
-    let there : l .o / 8 * 8 ≡ l .o = omega (arith, l .inv .1) in
-    c .word-at-byte2 .ensures ∙ ap (λ (p : ℕ). bitsAt (now (a .word)) p 64) there
 
 word-inside-requires : tie.Need-word-inside-requires Inv-loop μ-loop
 word-inside-requires c κs = omega (arith, c .before .before .before .pre)
@@ -51,17 +34,10 @@ shr-result-2 c = search needs
 
 returns : tie.Need-returns Inv-loop μ-loop
 returns c =
-    let a = c .before .before .before .before .before .args in
-    let t = textOf (now (a .text)) 0 in
-    let w = patternOf (now (a .word)) (a .m) in
-    let all : a .m - a .m ≡ 0 = omega arith in
-    let first = ap (λ (x : ℕ). x / 2 ^ (64 - a .m)) (c .before .word-inside .ensures) ∙ bits-first (now (a .text)) (a .s .0) {j = a .m} {k = 64} (omega arith) in
-    let second = ap (λ (x : ℕ). x / 2 ^ (64 - a .m)) (c .word-at-byte .ensures) ∙ bits-first (now (a .word)) 0 {j = a .m} {k = 64} (omega arith) in
-    ap₂ eqb first second
-    ∙ rw (all, add-zero (a .s .0)) at (chunk-decides t w (a .s .0) 0 (a .m) (λ j h. absurd (omega arith)) (omega arith) (omega arith))
+    one-load _ _ _ _ (omega arith) (c .before .word-inside .ensures) (c .word-at-byte .ensures)
 
 loop-holds : tie.Need-loop-holds Inv-loop μ-loop
-loop-holds c = (omega arith, omega arith, λ j h. absurd (omega arith))
+loop-holds c = none-passed _ _ _ _ (omega arith)
 
 add-loop : tie.Need-add-loop Inv-loop μ-loop
 add-loop c = omega arith
@@ -80,10 +56,9 @@ word-at-byte-requires-2 c κs = omega arith
 
 returns-2 : tie.Need-returns-2 Inv-loop μ-loop
 returns-2 c =
-    let a = c .before .before .before .before .before .before .before .before .args in
-    let o = c .before .before .before .before .loop .o in
-    sym (chunk-differs (textOf (now (a .text)) 0) (patternOf (now (a .word)) (a .m)) (a .s .0) o 64 (omega arith)
-    (λ e. c .if2 .taken (c .before .before .word-inside2 .ensures ∙ e ∙ sym (next-bits (c .before)))))
+    let l = c .before .before .before .before .loop in
+    next-differs _ _ _ _ (l .o) (omega arith) (c .before .before .word-inside2 .ensures)
+    (next-byte _ _ _ _ (l .o) (l .inv) (c .before .word-at-byte2 .ensures)) (c .if2 .taken)
 
 add-o : tie.Need-add-o Inv-loop μ-loop
 add-o c = omega arith
@@ -93,13 +68,9 @@ loop-less c = omega arith
 
 loop-again : tie.Need-loop-again Inv-loop μ-loop
 loop-again c =
-    let a = c .before .before .before .before .before .before .before .before .args in
-    let l = c .before .before .before .before .loop in (
-      omega arith,
-      omega (arith, l .inv .1),
-      agrees-more (textOf (now (a .text)) 0) (patternOf (now (a .word)) (a .m)) (a .s .0) (l .o) 64 (l .inv .2)
-          (sym (c .before .before .word-inside2 .ensures) ∙ c .if2 .left ∙ next-bits (c .before)),
-    )
+    let l = c .before .before .before .before .loop in
+    next-agrees _ _ _ _ (l .o) (l .inv) (omega arith) (c .before .before .word-inside2 .ensures)
+    (next-byte _ _ _ _ (l .o) (l .inv) (c .before .word-at-byte2 .ensures)) (c .if2 .left)
 
 sub-t26 : tie.Need-sub-t26 Inv-loop μ-loop
 sub-t26 c = omega arith
@@ -118,10 +89,8 @@ word-at-requires c κs = search needs
 
 returns-3 : tie.Need-returns-3 Inv-loop μ-loop
 returns-3 c =
-    let a = c .before .before .before .before .before .before .before .args in
     let l = c .before .before .before .loop in
-    ap₂ eqb (c .before .word-inside3 .ensures) (c .word-at .ensures)
-    ∙ chunk-decides (textOf (now (a .text)) 0) (patternOf (now (a .word)) (a .m)) (a .s .0) (l .o) 64 (l .inv .2) (omega arith) (omega arith)
+    last-decides _ _ _ _ (l .o) (l .inv) (omega arith) (omega arith) (c .before .word-inside3 .ensures) (c .word-at .ensures)
 
 pub stands-inside-spec : {M : Type 1} → statement M
 stands-inside-spec =

@@ -1,22 +1,14 @@
--- `matcher::compare::stands_near_end` meets its contract. A short pattern is one load; else the loop's invariant is that the bits passed
--- agree.
+-- `matcher::compare::stands_near_end` meets its contract, by the same laws as `stands_inside`.
 -- Assumes nothing.
 use borrow.Author.Needs.{needs}
-use mathlib.Core.Path.{_≡_, sym, _∙_, ap, ap₂}
-use Prim.Native.Nat.{ℕ, zero, _+_, _-_, _/_, _^_, _≤_, _<_}
+use Prim.Native.Nat.{_-_}
 use native.Mathlib.Omega.{arith}
-use native.Mathlib.Nat.{add-zero, zero-add}
-use denote.Ref.{now}
-use lib.Dec.{eqb}
-use Rattle.bits.specs.Packed.{bitsAt}
-use Rattle.bits.proofs.Run.{bits-first}
-use Rattle.matcher.specs.Progress.{textOf, patternOf}
-use Rattle.matcher.proofs.Chunks.{AgreesTo, agrees-more, chunk-differs, chunk-decides}
+use Rattle.matcher.proofs.Chunks.{Passed, one-load, none-passed, next-differs, next-agrees, last-decides}
 use Rattle.matcher.proofs.compare.stands_near_end.Statement.{statement}
 use Rattle.matcher.proofs.compare.stands_near_end.Tie as tie
 
 abbrev Inv-loop : tie.InvT-loop
-Inv-loop text word m at i₀ i = (i < m) × AgreesTo (textOf text 0) (patternOf word m) at i
+Inv-loop text word m at i₀ i = Passed text word m at i
 
 abbrev μ-loop : tie.MeasureT-loop
 μ-loop text word m at i₀ i = m - i
@@ -41,17 +33,10 @@ shr-result-2 c = search needs
 
 returns : tie.Need-returns Inv-loop μ-loop
 returns c =
-    let a = c .before .before .before .before .before .args in
-    let t = textOf (now (a .text)) 0 in
-    let w = patternOf (now (a .word)) (a .m) in
-    let all : a .m - a .m ≡ 0 = omega arith in
-    let first = ap (λ (x : ℕ). x / 2 ^ (64 - a .m)) (c .before .word-at .ensures) ∙ bits-first (now (a .text)) (a .s .0) {j = a .m} {k = 64} (omega arith) in
-    let second = ap (λ (x : ℕ). x / 2 ^ (64 - a .m)) (c .word-at2 .ensures) ∙ bits-first (now (a .word)) 0 {j = a .m} {k = 64} (omega arith) in
-    ap₂ eqb first second
-    ∙ rw (all, add-zero (a .s .0)) at (chunk-decides t w (a .s .0) 0 (a .m) (λ j h. absurd (omega arith)) (omega arith) (omega arith))
+    one-load _ _ _ _ (omega arith) (c .before .word-at .ensures) (c .word-at2 .ensures)
 
 loop-holds : tie.Need-loop-holds Inv-loop μ-loop
-loop-holds c = (omega arith, λ j h. absurd (omega arith))
+loop-holds c = none-passed _ _ _ _ (omega arith)
 
 add-loop : tie.Need-add-loop Inv-loop μ-loop
 add-loop c = omega arith
@@ -67,10 +52,8 @@ word-at-requires-4 c κs = search needs
 
 returns-2 : tie.Need-returns-2 Inv-loop μ-loop
 returns-2 c =
-    let a = c .before .before .before .before .before .before .before .before .args in
-    let o = c .before .before .before .before .loop .i in
-    sym (chunk-differs (textOf (now (a .text)) 0) (patternOf (now (a .word)) (a .m)) (a .s .0) o 64 (omega arith)
-    (λ e. c .if2 .taken (c .before .before .word-at3 .ensures ∙ e ∙ sym (c .before .word-at4 .ensures))))
+    next-differs _ _ _ _ (c .before .before .before .before .loop .i) (omega arith)
+    (c .before .before .word-at3 .ensures) (c .before .word-at4 .ensures) (c .if2 .taken)
 
 add-i : tie.Need-add-i Inv-loop μ-loop
 add-i c = omega arith
@@ -80,12 +63,8 @@ loop-less c = omega arith
 
 loop-again : tie.Need-loop-again Inv-loop μ-loop
 loop-again c =
-    let a = c .before .before .before .before .before .before .before .before .args in
-    let l = c .before .before .before .before .loop in (
-      omega arith,
-      agrees-more (textOf (now (a .text)) 0) (patternOf (now (a .word)) (a .m)) (a .s .0) (l .i) 64 (l .inv .1)
-          (sym (c .before .before .word-at3 .ensures) ∙ c .if2 .left ∙ c .before .word-at4 .ensures),
-    )
+    let l = c .before .before .before .before .loop in
+    next-agrees _ _ _ _ (l .i) (l .inv) (omega arith) (c .before .before .word-at3 .ensures) (c .before .word-at4 .ensures) (c .if2 .left)
 
 sub-t24 : tie.Need-sub-t24 Inv-loop μ-loop
 sub-t24 c = omega arith
@@ -104,10 +83,8 @@ word-at-requires-6 c κs = search needs
 
 returns-3 : tie.Need-returns-3 Inv-loop μ-loop
 returns-3 c =
-    let a = c .before .before .before .before .before .before .before .args in
     let l = c .before .before .before .loop in
-    ap₂ eqb (c .before .word-at5 .ensures) (c .word-at6 .ensures)
-    ∙ chunk-decides (textOf (now (a .text)) 0) (patternOf (now (a .word)) (a .m)) (a .s .0) (l .i) 64 (l .inv .1) (omega arith) (omega arith)
+    last-decides _ _ _ _ (l .i) (l .inv) (omega arith) (omega arith) (c .before .word-at5 .ensures) (c .word-at6 .ensures)
 
 pub stands-near-end-spec : {M : Type 1} → statement M
 stands-near-end-spec =
