@@ -6,94 +6,66 @@ use mathlib.Core.List.{List, [], _∷_}
 use lib.ListN.{length}
 use Rattle.rules.specs.Machine.{Run}
 use Rattle.rules.specs.declared.Method.{Method}
-use Rattle.bits.specs.declared.eight.Eight.{Eight}
-use Rattle.bits.specs.Eight.{verdictOf, eightAt}
 use Rattle.search.specs.declared.Outcome.{Outcome}
 use Rattle.search.specs.declared.Outcome.the-variants.{Accepted, Refused}
-use Rattle.search.specs.declared.hash_value.HashAnswer.{HashAnswer}
-use Rattle.search.specs.HashAnswers.{hashAnswer}
-use Rattle.search.specs.Verdict.{verdict, Searched, hashVerdict}
-use Rattle.positions.specs.Basics.{Result}
+use Rattle.search.specs.Verdict.{verdict, Searched}
+use Rattle.positions.specs.Basics.{fault}
 use Rattle.positions.specs.Encode.{encode}
 use Rattle.positions.specs.Decode.{decode}
-use Rattle.positions.specs.Promise.{Answer, refused, sizeAnswer, sizeGives, Writes, writeGives, leaves, Reads, readGives, readAnswer, readCells}
-use Rattle.positions.specs.declared.ByteCount.{ByteCount}
-use Rattle.positions.specs.declared.Written.{Written}
-use Rattle.positions.specs.declared.ReadAnswer.{ReadAnswer}
-use Rattle.capi.specs.Told.{Told, refuses, fewAnswerCells, unknownMethod, Tells}
-use Rattle.capi.specs.Scan.{methodNamed, known, unknown, Call, requestOf, searchVerdict, runTells, listAfter, ScratchAfter, Searches, hashTells, hashTold}
-use Rattle.capi.specs.EightBits.{eightTells, eightTold}
-use Rattle.capi.specs.ListFile.{countTells, sizeTold, writeVerdict, ListWritten, readVerdict, ListRead}
+use Rattle.positions.specs.Promise.{refused, writeAnswer, leaves, readAnswer, readCells}
+use Rattle.capi.specs.Told.{Told, gives, refuses, fewAnswerCells, unknownMethod, unlessCells, Tells}
+use Rattle.capi.specs.Scan.{methodNamed, known, unknown, Call, requestOf, searchVerdict, runTells, listAfter, ScratchAfter, Searches}
+use Rattle.capi.specs.ListFile.{countTells, writeVerdict, ListWritten, readVerdict, ListRead}
 use Rattle.capi.specs.Inner.{outcomeTells}
 use Rattle.capi.proofs.Telling.{few-cells, enough-cells, refusing}
 
--- ---- H(B)
+-- ---- the calls that tell one number
 
-module _ (word : List ℕ) (m value : ℕ) (answer : List ℕ) where
-  pub hash-short : length answer < 1 → Tells (hashTold word m value answer) answer fewAnswerCells answer
-  unfolding hashTold
-  hash-short h = rw (few-cells 1 answer) (refusing _ _)
+-- `few` is the verdict where there is no answer cell, `own` that of the call below.
+module _ {A : Type 0} (tell : A → Told) (few own : A) (answer : List ℕ) where
+  pub none-told : length answer < 1 → tell few ≡ refuses fewAnswerCells
+      → Tells (tell (unlessCells 1 answer few own)) answer fewAnswerCells answer
+  none-told h e = rw (few-cells 1 answer few own, e) (refusing _ _)
 
-  pub hash-tells : (found : HashAnswer) (r : ℕ) (after : List ℕ) → 1 ≤ length answer
-      → hashAnswer found ≡ hashVerdict (record { bytes = word; count = m }) value
-      → Tells (hashTells (hashAnswer found)) answer r after → Tells (hashTold word m value answer) answer r after
-  unfolding hashTold
-  hash-tells found r after h e t = rw (enough-cells 1 answer, ← e) t
+  pub refusal-told : {k r : ℕ} → 1 ≤ length answer → refuses k ≡ tell own → r ≡ k
+      → Tells (tell (unlessCells 1 answer few own)) answer r answer
+  refusal-told h e f = rw (enough-cells 1 answer few own, ← e) (record { result-is = f; answer-is = refl })
 
--- ---- eight bits
+  pub number-told : {k r : ℕ} {after : List ℕ} → 1 ≤ length answer → gives (k ∷ []) ≡ tell own
+      → Tells (gives (k ∷ [])) answer r after → Tells (tell (unlessCells 1 answer few own)) answer r after
+  number-told h e t = rw (enough-cells 1 answer few own, ← e) t
 
-module _ (bytes : List ℕ) (n place : ℕ) (answer : List ℕ) where
-  pub eight-short : length answer < 1 → Tells (eightTold bytes n place answer) answer fewAnswerCells answer
-  unfolding eightTold
-  eight-short h = rw (few-cells 1 answer) (refusing _ _)
+-- Two of them fill a buffer, the writer and the reader: `leave` is what a verdict leaves there.
+pub record Filled {A : Type 0} (tell : A → Told) (leave : A → List ℕ) (few own : A) (answer : List ℕ) (result : ℕ) (buffer answer′ : List ℕ) : Type 0 where
+  pub tells : Tells (tell (unlessCells 1 answer few own)) answer result answer′
+  pub buffer-is : buffer ≡ leave (unlessCells 1 answer few own)
 
-  pub eight-tells : (found : Eight) (r : ℕ) (after : List ℕ) → 1 ≤ length answer
-      → verdictOf found ≡ eightAt (record { bytes = bytes; count = n }) place
-      → Tells (eightTells (verdictOf found)) answer r after → Tells (eightTold bytes n place answer) answer r after
-  unfolding eightTold
-  eight-tells found r after h e t = rw (enough-cells 1 answer, ← e) t
+module _ {A : Type 0} {tell : A → Told} {leave : A → List ℕ} {few own : A} {answer : List ℕ} where
+  pub none-filled : length answer < 1 → tell few ≡ refuses fewAnswerCells
+      → Filled tell leave few own answer fewAnswerCells (leave few) answer
+  none-filled h e = record { tells = none-told tell few own answer h e; buffer-is = rw (few-cells 1 answer few own) }
 
--- ---- the position list file
+  pub refusal-filled : {k r : ℕ} {buffer : List ℕ} → 1 ≤ length answer → refuses k ≡ tell own → buffer ≡ leave own → r ≡ k
+      → Filled tell leave few own answer r buffer answer
+  refusal-filled h e b f =
+      record { tells = refusal-told tell few own answer h e f; buffer-is = rw (enough-cells 1 answer few own) b }
 
-module _ (list answer : List ℕ) where
-  pub size-short : length answer < 1 → Tells (sizeTold list answer) answer fewAnswerCells answer
-  unfolding sizeTold
-  size-short h = rw (few-cells 1 answer) (refusing _ _)
+  pub number-filled : {k r : ℕ} {buffer after : List ℕ} → 1 ≤ length answer → gives (k ∷ []) ≡ tell own → buffer ≡ leave own
+      → Tells (gives (k ∷ [])) answer r after → Filled tell leave few own answer r buffer after
+  number-filled h e b t =
+      record { tells = number-told tell few own answer h e t; buffer-is = rw (enough-cells 1 answer few own) b }
 
-  pub size-tells : (found : ByteCount) (r : ℕ) (after : List ℕ) → 1 ≤ length answer → sizeGives found ≡ sizeAnswer list
-      → Tells (countTells (sizeGives found)) answer r after → Tells (sizeTold list answer) answer r after
-  unfolding sizeTold
-  size-tells found r after h e t = rw (enough-cells 1 answer, ← e) t
+pub written : {list target answer target′ answer′ : List ℕ} {r : ℕ}
+    → Filled countTells (λ v. leaves v (encode list) target) (refused fewAnswerCells) (writeAnswer list (length target)) answer r target′ answer′
+    → ListWritten list target answer r target′ answer′
+unfolding writeVerdict
+written f = record { tells = f .tells; target-is = f .buffer-is }
 
-module _ (list target answer : List ℕ) where
-  pub write-short : length answer < 1 → ListWritten list target answer fewAnswerCells target answer
-  unfolding writeVerdict leaves
-  write-short h =
-      record { tells = rw (few-cells 1 answer) (refusing _ _); target-is = rw (few-cells 1 answer) }
-
-  pub write-tells : (found : Written) (r : ℕ) (target′ answer′ : List ℕ) → 1 ≤ length answer → Writes list target found target′
-      → Tells (countTells (writeGives found)) answer r answer′ → ListWritten list target answer r target′ answer′
-  unfolding writeVerdict
-  write-tells found r target′ answer′ h w t =
-      record {
-        tells = rw (enough-cells 1 answer, ← w .answer) t;
-        target-is = rw (enough-cells 1 answer) (w .target);
-      }
-
-module _ (file cells answer : List ℕ) where
-  pub read-short : length answer < 1 → ListRead file cells answer fewAnswerCells cells answer
-  unfolding readVerdict readAnswer readCells
-  read-short h =
-      record { tells = rw (few-cells 1 answer) (refusing _ _); cells-is = rw (few-cells 1 answer) }
-
-  pub read-tells : (found : ReadAnswer) (r : ℕ) (cells′ answer′ : List ℕ) → 1 ≤ length answer → Reads file cells found cells′
-      → Tells (countTells (readGives found)) answer r answer′ → ListRead file cells answer r cells′ answer′
-  unfolding readVerdict
-  read-tells found r cells′ answer′ h w t =
-      record {
-        tells = rw (enough-cells 1 answer, ← w .answer) t;
-        cells-is = rw (enough-cells 1 answer) (w .cells);
-      }
+pub read : {file cells answer cells′ answer′ : List ℕ} {r : ℕ}
+    → Filled (λ v. countTells (readAnswer v)) (λ v. readCells v cells) (fault fewAnswerCells) (decode file (length cells)) answer r cells′ answer′
+    → ListRead file cells answer r cells′ answer′
+unfolding readVerdict
+read f = record { tells = f .tells; cells-is = f .buffer-is }
 
 -- ---- the search call
 

@@ -1,4 +1,4 @@
-// What an accepted call tells: numbers in the first answer cells, and 0.
+// What an accepted call with one number to tell does: the number goes to the first answer cell, and 0 comes back.
 ghost use mathlib.Core.List.{[], _∷_};
 ghost use Prim.Native.Nat.{_≤_};
 ghost use lib.ListN.{length};
@@ -9,16 +9,5 @@ pub(crate) fn one(answer: &mut [u64], a: u64) -> u32
     ensures { λ r. ⌜ Tells (gives (a ∷ [])) (now (answer .entry)) r (now (answer .exit)) ⌝ }
 {
     answer[0] = a;
-    0
-}
-
-pub(crate) fn four(answer: &mut [u64], a: u64, b: u64, c: u64, d: u64) -> u32
-    requires { ⌜ 4 ≤ length (now answer) ⌝ }
-    ensures { λ r. ⌜ Tells (gives (a ∷ b ∷ c ∷ d ∷ [])) (now (answer .entry)) r (now (answer .exit)) ⌝ }
-{
-    answer[0] = a;
-    answer[1] = b;
-    answer[2] = c;
-    answer[3] = d;
     0
 }

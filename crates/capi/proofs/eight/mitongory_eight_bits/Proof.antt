@@ -1,13 +1,15 @@
 -- `capi::eight::mitongory_eight_bits` meets its contract: few answer cells refuse, else the answer is that of `bits::eight::eight_bits`.
 -- Assumes nothing.
-use mathlib.Core.Path.{refl}
-use Rattle.capi.proofs.Calling.{eight-short, eight-tells}
+use mathlib.Core.Path.{refl, ap}
+use Rattle.capi.specs.EightBits.{eightTells, eightTold}
+use Rattle.capi.proofs.Calling.{none-told, refusal-told, number-told}
 use borrow.Author.Needs.{needs}
 use Rattle.capi.proofs.eight.mitongory_eight_bits.Statement.{statement}
 use Rattle.capi.proofs.eight.mitongory_eight_bits.Tie as tie
 
 returns : tie.Need-returns
-returns c = eight-short _ _ _ _ (c .if1 .taken)
+unfolding eightTold
+returns c = none-told (λ v. v) _ _ _ (c .if1 .taken) refl
 
 eight-bits-requires : tie.Need-eight-bits-requires
 eight-bits-requires c κs = search needs
@@ -28,19 +30,21 @@ one-requires : tie.Need-one-requires
 one-requires c κs = search needs
 
 returns-2 : tie.Need-returns-2
+unfolding eightTold
 returns-2 c =
     let at = c .before .before .before .before in
-    eight-tells _ _ _ _ (at .eight-bits .result) _ _ (at .before .if1 .left) (at .eight-bits .ensures)
-    (rw (c .before .before .found .given .1) (record { result-is = c .number-of .ensures; answer-is = refl }))
+    let told = rw (c .before .before .found .given .1) at (at .eight-bits .ensures) in
+    refusal-told (λ v. v) _ _ _ (at .before .if1 .left) (ap eightTells told) (c .number-of .ensures)
 
 same-length : tie.Need-same-length
 same-length c = search needs
 
 returns-3 : tie.Need-returns-3
+unfolding eightTold
 returns-3 c =
     let at = c .before .before .before .before .before .before .before in
-    eight-tells _ _ _ _ (at .eight-bits .result) _ _ (at .before .if1 .left) (at .eight-bits .ensures)
-    (rw (c .before .before .before .before .before .found2 .given .1) (c .before .before .one .ensures))
+    let told = rw (c .before .before .before .before .before .found2 .given .1) at (at .eight-bits .ensures) in
+    number-told (λ v. v) _ _ _ (at .before .if1 .left) (ap eightTells told) (c .before .before .one .ensures)
 
 pub mitongory-eight-bits-spec : {M : Type 1} → statement M
 mitongory-eight-bits-spec =

@@ -1,13 +1,15 @@
 -- `capi::lists::mitongory_list_size` meets its contract: few answer cells refuse, else the answer is that of `positions::size`.
 -- Assumes nothing.
-use mathlib.Core.Path.{refl}
-use Rattle.capi.proofs.Calling.{size-short, size-tells}
+use mathlib.Core.Path.{refl, ap}
+use Rattle.capi.specs.ListFile.{countTells, sizeTold}
+use Rattle.capi.proofs.Calling.{none-told, refusal-told, number-told}
 use borrow.Author.Needs.{needs}
 use Rattle.capi.proofs.lists.mitongory_list_size.Statement.{statement}
 use Rattle.capi.proofs.lists.mitongory_list_size.Tie as tie
 
 returns : tie.Need-returns
-returns c = size-short _ _ (c .if1 .taken)
+unfolding sizeTold
+returns c = none-told countTells _ _ _ (c .if1 .taken) refl
 
 size-requires : tie.Need-size-requires
 size-requires c κs = search needs
@@ -25,19 +27,21 @@ one-requires : tie.Need-one-requires
 one-requires c κs = search needs
 
 returns-2 : tie.Need-returns-2
+unfolding sizeTold
 returns-2 c =
     let at = c .before .before .before .before in
-    size-tells _ _ (at .size .result) _ _ (at .before .if1 .left) (at .size .ensures)
-    (rw (c .before .before .needed .given .1) (record { result-is = c .write-number .ensures; answer-is = refl }))
+    let told = rw (c .before .before .needed .given .1) at (at .size .ensures) in
+    refusal-told countTells _ _ _ (at .before .if1 .left) (ap countTells told) (c .write-number .ensures)
 
 same-length : tie.Need-same-length
 same-length c = search needs
 
 returns-3 : tie.Need-returns-3
+unfolding sizeTold
 returns-3 c =
     let at = c .before .before .before .before .before .before .before in
-    size-tells _ _ (at .size .result) _ _ (at .before .if1 .left) (at .size .ensures)
-    (rw (c .before .before .before .before .before .needed2 .given .1) (c .before .before .one .ensures))
+    let told = rw (c .before .before .before .before .before .needed2 .given .1) at (at .size .ensures) in
+    number-told countTells _ _ _ (at .before .if1 .left) (ap countTells told) (c .before .before .one .ensures)
 
 pub mitongory-list-size-spec : {M : Type 1} → statement M
 mitongory-list-size-spec =

@@ -1,13 +1,16 @@
 -- `capi::lists::mitongory_list_write` meets its contract: few answer cells refuse, else answer and target are those of `positions::write`.
 -- Assumes nothing.
-use mathlib.Core.Path.{refl}
-use Rattle.capi.proofs.Calling.{write-short, write-tells}
+use mathlib.Core.Path.{refl, ap}
+use Rattle.capi.specs.ListFile.{countTells}
+use Rattle.positions.specs.Promise.{leaves}
+use Rattle.capi.proofs.Calling.{none-filled, refusal-filled, number-filled, written}
 use borrow.Author.Needs.{needs}
 use Rattle.capi.proofs.lists.mitongory_list_write.Statement.{statement}
 use Rattle.capi.proofs.lists.mitongory_list_write.Tie as tie
 
 returns : tie.Need-returns
-returns c = write-short _ _ _ (c .if1 .taken)
+unfolding leaves
+returns c = written (none-filled (c .if1 .taken) refl)
 
 write-requires : tie.Need-write-requires
 write-requires c κs = search needs
@@ -30,8 +33,8 @@ same-length c = search needs
 returns-2 : tie.Need-returns-2
 returns-2 c =
     let at = c .before .before .before .before .before .before in
-    write-tells _ _ _ (at .write .result) _ _ _ (at .before .before .if1 .left) (at .write .ensures)
-    (rw (c .before .before .written .given .1) (record { result-is = c .write-number .ensures; answer-is = refl }))
+    let told = rw (c .before .before .written .given .1) at (at .write .ensures .answer) in
+    written (refusal-filled (at .before .before .if1 .left) (ap countTells told) (at .write .ensures .target) (c .write-number .ensures))
 
 same-length-2 : tie.Need-same-length-2
 same-length-2 c = search needs
@@ -42,8 +45,8 @@ same-length-3 c = search needs
 returns-3 : tie.Need-returns-3
 returns-3 c =
     let at = c .before .before .before .before .before .before .before .before .before in
-    write-tells _ _ _ (at .write .result) _ _ _ (at .before .before .if1 .left) (at .write .ensures)
-    (rw (c .before .before .before .before .before .written2 .given .1) (c .before .before .one .ensures))
+    let told = rw (c .before .before .before .before .before .written2 .given .1) at (at .write .ensures .answer) in
+    written (number-filled (at .before .before .if1 .left) (ap countTells told) (at .write .ensures .target) (c .before .before .one .ensures))
 
 pub mitongory-list-write-spec : {M : Type 1} → statement M
 mitongory-list-write-spec =

@@ -1,5 +1,10 @@
--- `capi::scan::tell` meets its contract: an outcome's number, and the four cells of an accepted one.
+-- `capi::scan::tell` meets its contract: an outcome's number, and four stores in front of the other cells for an accepted one.
 -- Assumes nothing.
+use denote.Ref.{now}
+use mathlib.Core.Path.{refl}
+use native.Mathlib.Omega.{arith}
+use lib.ListN.{length-set}
+use Rattle.capi.proofs.Telling.{four-cells}
 use borrow.Author.Needs.{needs}
 use Rattle.capi.proofs.scan.tell.Statement.{statement}
 use Rattle.capi.proofs.scan.tell.Tie as tie
@@ -13,20 +18,29 @@ number-of-requires c κs = search needs
 enum-known-outcome-2 : tie.Need-enum-known-outcome-2
 enum-known-outcome-2 c = search needs
 
-cast-four : tie.Need-cast-four
-cast-four c = search needs
+cast-answer : tie.Need-cast-answer
+cast-answer c = search needs
 
-cast-four-2 : tie.Need-cast-four-2
-cast-four-2 c = search needs
+slice-write-answer : tie.Need-slice-write-answer
+slice-write-answer c = search needs
 
-cast-four-3 : tie.Need-cast-four-3
-cast-four-3 c = search needs
+cast-answer-2 : tie.Need-cast-answer-2
+cast-answer-2 c = search needs
+
+slice-write-answer-2 : tie.Need-slice-write-answer-2
+slice-write-answer-2 c = rw length-set (omega arith)
+
+cast-answer-3 : tie.Need-cast-answer-3
+cast-answer-3 c = search needs
+
+slice-write-answer-3 : tie.Need-slice-write-answer-3
+slice-write-answer-3 c = simp length-set (omega arith)
 
 stop-of-requires : tie.Need-stop-of-requires
 stop-of-requires c κs = search needs
 
-four-requires : tie.Need-four-requires
-four-requires c κs = search needs
+slice-write-answer-4 : tie.Need-slice-write-answer-4
+slice-write-answer-4 c = search needs
 
 returns : tie.Need-returns
 returns c = search needs
@@ -36,8 +50,10 @@ same-length c = search needs
 
 returns-2 : tie.Need-returns-2
 returns-2 c =
-    let stop = c .before .before .before .stop-of .ensures in
-    rw (c .before .before .before .before .before .before .before .before .before .before .before .outcome2 .given .1) (rw stop at (c .before .before .four .ensures))
+    let told = c .before .before .before .before .before .before .before in
+    let start = told .before .before .before in
+    rw (told .outcome2 .given .1, c .stop-of .ensures)
+    (record { result-is = refl; answer-is = four-cells (now (start .args .answer)) _ _ _ _ (start .pre) })
 
 pub tell-spec : {M : Type 1} → statement M
 tell-spec =
@@ -46,11 +62,14 @@ tell-spec =
     enum-known-outcome
     number-of-requires
     enum-known-outcome-2
-    cast-four
-    cast-four-2
-    cast-four-3
+    cast-answer
+    slice-write-answer
+    cast-answer-2
+    slice-write-answer-2
+    cast-answer-3
+    slice-write-answer-3
     stop-of-requires
-    four-requires
+    slice-write-answer-4
     returns
     same-length
     returns-2)
