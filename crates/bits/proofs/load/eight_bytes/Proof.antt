@@ -2,11 +2,11 @@
 -- Assumes nothing.
 use mathlib.Core.Path.{_≡_, refl, sym, _∙_, ap}
 use mathlib.Core.List.{List, [], _∷_}
-use Prim.Native.Nat.{ℕ, zero, suc, _+_, _<_}
+use Prim.Native.Nat.{ℕ, zero, suc, _+_, _*_, _<_}
 use native.Mathlib.Nat.{add-zero}
 use native.Mathlib.Omega.{arith}
-use denote.Ref.{now}
 use lib.ListN.{getD}
+use Rattle.bits.specs.Packed.{bitsAt}
 use Rattle.bits.proofs.Loads.{same-bytes}
 use borrow.Author.Needs.{needs}
 use Rattle.bits.proofs.load.eight_bytes.Statement.{statement}
@@ -35,6 +35,9 @@ in-order l b (suc (suc (suc (suc (suc zero))))) h = refl
 in-order l b (suc (suc (suc (suc (suc (suc zero)))))) h = refl
 in-order l b (suc (suc (suc (suc (suc (suc (suc zero))))))) h = refl
 in-order l b (suc (suc (suc (suc (suc (suc (suc (suc i)))))))) h = absurd (omega arith)
+
+joined : (l : List ℕ) (b : ℕ) {x : ℕ} → x ≡ bitsAt (eight l b) 0 64 → x ≡ bitsAt l (b * 8) 64
+joined l b e = e ∙ same-bytes (eight l b) l 0 b 8 (in-order l b)
 
 shared-slice-read-join : tie.Need-shared-slice-read-join
 shared-slice-read-join c = search needs
@@ -86,9 +89,7 @@ join-requires c κs = search needs
 
 returns : tie.Need-returns
 unfolding eight
-returns c =
-    let a = c .before .before .before .before .before .before .before .before .before .before .args in
-    c .join .ensures ∙ same-bytes (eight (now (a .bytes)) (a .b)) (now (a .bytes)) 0 (a .b) 8 (in-order (now (a .bytes)) (a .b))
+returns c = joined _ _ (c .join .ensures)
 
 pub eight-bytes-spec : {M : Type 1} → statement M
 eight-bytes-spec =
