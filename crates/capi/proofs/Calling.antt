@@ -36,7 +36,8 @@ module _ {A : Type 0} (tell : A → Told) (few own : A) (answer : List ℕ) wher
   number-told h e t = rw (enough-cells 1 answer few own, ← e) t
 
 -- Two of them fill a buffer, the writer and the reader: `leave` is what a verdict leaves there.
-pub record Filled {A : Type 0} (tell : A → Told) (leave : A → List ℕ) (few own : A) (answer : List ℕ) (result : ℕ) (buffer answer′ : List ℕ) : Type 0 where
+pub record Filled {A : Type 0} (tell : A → Told) (leave : A → List ℕ) (few own : A) (answer : List ℕ)
+    (result : ℕ) (buffer answer′ : List ℕ) : Type 0 where
   pub tells : Tells (tell (unlessCells 1 answer few own)) answer result answer′
   pub buffer-is : buffer ≡ leave (unlessCells 1 answer few own)
 
@@ -56,13 +57,15 @@ module _ {A : Type 0} {tell : A → Told} {leave : A → List ℕ} {few own : A}
       record { tells = number-told tell few own answer h e t; buffer-is = rw (enough-cells 1 answer few own) b }
 
 pub written : {list target answer target′ answer′ : List ℕ} {r : ℕ}
-    → Filled countTells (λ v. leaves v (encode list) target) (refused fewAnswerCells) (writeAnswer list (length target)) answer r target′ answer′
+    → Filled countTells (λ v. leaves v (encode list) target) (refused fewAnswerCells) (writeAnswer list (length target)) answer r
+    target′ answer′
     → ListWritten list target answer r target′ answer′
 unfolding writeVerdict
 written f = record { tells = f .tells; target-is = f .buffer-is }
 
 pub read : {file cells answer cells′ answer′ : List ℕ} {r : ℕ}
-    → Filled (λ v. countTells (readAnswer v)) (λ v. readCells v cells) (fault fewAnswerCells) (decode file (length cells)) answer r cells′ answer′
+    → Filled (λ v. countTells (readAnswer v)) (λ v. readCells v cells) (fault fewAnswerCells) (decode file (length cells))
+    answer r cells′ answer′
     → ListRead file cells answer r cells′ answer′
 unfolding readVerdict
 read f = record { tells = f .tells; cells-is = f .buffer-is }
