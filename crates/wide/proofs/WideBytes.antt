@@ -22,18 +22,19 @@ use Rattle.rules.specs.Pattern.{Pattern, agrees}
 use Rattle.rules.proofs.Ranges.{not-true-false, eq-or-below}
 use Rattle.rules.proofs.Pattern.{agrees-iff}
 use Rattle.matcher.specs.Tables.{passes}
-use Rattle.wide.specs.Flags.{Padding, ByteFrom, Enters, Entered, moved}
+use Rattle.wide.specs.Flags.{Enters, Entered, moved}
 use Rattle.wide.proofs.WideTables.{bitFor, bit-or-bit, weight-zero, weight-ones, half-weight, passes-high, passes-first, passes-along, Flags, Before, before-next, Filled}
 
 -- The bits that enter
 
+-- of the eight window bits from q on, those from m on are set in y, and no other
+pub record Padding (m q y : ℕ) : Type 0 where
+  pub small : y < 2 ^ 8
+  pub bits : (j : ℕ) → j < 8 → bitOf 8 y j ≡ bitFor (leb m (q + j))
+
 pub padding-none : (m q : ℕ) → q + 8 ≤ m → Padding m q 0
 padding-none m q h =
     record { small = omega arith; bits = λ j l. weight-zero (7 - j) ∙ sym (ap bitFor (lt-leb m (q + j) (omega arith))) }
-
-pub padding-all : (m q : ℕ) → m ≤ q → Padding m q 255
-padding-all m q h =
-    record { small = omega arith; bits = λ j l. weight-ones 8 (7 - j) (omega arith) ∙ sym (ap bitFor (le-leb m (q + j) (omega arith))) }
 
 pub padding-some : (m q : ℕ) → q ≤ m → Padding m q (255 / 2 ^ (m - q))
 padding-some m q h = record { small = omega (arith, shr-le 255 (m - q)); bits = λ j l. weight-shr 255 (m - q) (7 - j) ∙ go j l (decLe m (q + j)) }
@@ -61,20 +62,12 @@ weight-not (suc k) x (suc i) h l =
     half : (p r : ℕ) → p ≡ r * 2 → x < p → (p - 1 - x) / 2 ≡ r - 1 - x / 2
     half p r e u = omega arith
 
-pub byte-here : (w : Pattern) (q : ℕ) → q % 8 ≡ 0 → getD (w .bytes) (q / 8) 0 < 256 → ByteFrom w q (getD (w .bytes) (q / 8) 0)
-byte-here w q e h =
-    let there : q / 8 * 8 ≡ q = omega arith in
-    record { small = h; bits = λ j l u. sym (ap (λ (n : ℕ). bitAt (w .bytes) (n + j)) (sym there) ∙ bit-in-byte (w .bytes) (q / 8) l) }
-
-pub byte-none : (w : Pattern) (q : ℕ) → w .count ≤ q → ByteFrom w q 0
-byte-none w q h = record { small = omega arith; bits = λ j l u. absurd (omega arith) }
-
 module _ (w : Pattern) where
   -- whether the pattern's bit is 0 or 1
   agrees-one : (p : ℕ) → bitAt (w .bytes) p ≡ bitFor (agrees w p 1)
   agrees-one p =
       ⊎-elim
-      (λ e. e ∙ sym (ap bitFor (not-true-false _ (λ t. absurd (omega (arith, agrees-iff w p 1 .0 t))))))
+      (λ e. e ∙ sym (ap bitFor (not-true-false (agrees w p 1) (λ t. absurd (omega (arith, agrees-iff w p 1 .0 t))))))
       (λ e. e ∙ sym (ap bitFor (agrees-iff w p 1 .1 (sym e))))
       (bit-or-bit (bitAt (w .bytes) p) (bit-lt (w .bytes) p))
 
@@ -82,7 +75,7 @@ module _ (w : Pattern) where
   agrees-zero p =
       ⊎-elim
       (λ e. ap (λ (b : ℕ). 1 - b) e ∙ sym (ap bitFor (agrees-iff w p 0 .1 (sym e))))
-      (λ e. ap (λ (b : ℕ). 1 - b) e ∙ sym (ap bitFor (not-true-false _ (λ t. absurd (omega (arith, agrees-iff w p 0 .0 t))))))
+      (λ e. ap (λ (b : ℕ). 1 - b) e ∙ sym (ap bitFor (not-true-false (agrees w p 0) (λ t. absurd (omega (arith, agrees-iff w p 0 .0 t))))))
       (bit-or-bit (bitAt (w .bytes) p) (bit-lt (w .bytes) p))
 
   -- bits of the pattern that agree with c, and behind the pattern ones
@@ -107,16 +100,28 @@ module _ (w : Pattern) where
           ∙ f j l (omega arith)
           ∙ sym (ap bitFor (passes-first w c (q + j) (omega arith)))
 
-  module _ (q b pad : ℕ) (p : Padding (w .count) q pad) (f : ByteFrom w q b) where
-    pub enters-one : Enters w 1 q (bitOr b pad)
-    enters-one = enters-padded 1 q b pad (f .small) p (λ j l u. f .bits j l u ∙ agrees-one (q + j))
+  -- the pattern's byte from q on, and what lies after the pattern
+  module _ (q pad : ℕ) (p : Padding (w .count) q pad) (whole : q % 8 ≡ 0) (small : getD (w .bytes) (q / 8) 0 < 256) where
+    b : ℕ
+    b = getD (w .bytes) (q / 8) 0
 
-    pub enters-zero : Enters w 0 q (bitOr (255 - b) pad)
+    bits : (j : ℕ) → j < 8 → bitOf 8 b j ≡ bitAt (w .bytes) (q + j)
+    unfolding b
+    bits j l =
+        let there : q / 8 * 8 ≡ q = omega arith in
+        sym (ap (λ (n : ℕ). bitAt (w .bytes) (n + j)) (sym there) ∙ bit-in-byte (w .bytes) (q / 8) l)
+
+    pub enters-one : Enters w 1 q (bitOr (getD (w .bytes) (q / 8) 0) pad)
+    unfolding b
+    enters-one = enters-padded 1 q b pad small p (λ j l u. bits j l ∙ agrees-one (q + j))
+
+    pub enters-zero : Enters w 0 q (bitOr (255 - getD (w .bytes) (q / 8) 0) pad)
+    unfolding b
     enters-zero =
         enters-padded 0 q (255 - b) pad (omega arith) p
-        (λ j l u. weight-not 8 b (7 - j) (f .small) (omega arith) ∙ ap (λ (y : ℕ). 1 - y) (f .bits j l u) ∙ agrees-zero (q + j))
+        (λ j l u. weight-not 8 b (7 - j) small (omega arith) ∙ ap (λ (y : ℕ). 1 - y) (bits j l) ∙ agrees-zero (q + j))
 
-  -- behind the pattern all are ones
+  -- after the pattern all are ones
   pub enters-past : (c q : ℕ) → w .count ≤ q → Enters w c q 255
   enters-past c q h =
       record { small = omega arith; flags = λ j l. weight-ones 8 (7 - j) (omega arith) ∙ sym (ap bitFor (passes-high w c (q + j) 0 (omega arith))) }

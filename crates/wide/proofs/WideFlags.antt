@@ -2,7 +2,7 @@
 -- step; and what a step finds is the occurrences of its 64 places below E.
 -- Assumes nothing.
 use mathlib.Core.Path.{_≡_, refl, sym, ap, ap₂, _∙_}
-use mathlib.Core.Bool.{Bool, true, false}
+use mathlib.Core.Bool.{Bool, true, false, _&&_}
 use mathlib.Core.List.{List, [], _∷_, _++_}
 use Prim.Native.Nat.{ℕ, _+_, _-_, _*_, _/_, _^_, _≤_, _<_, min}
 use native.Mathlib.Nat.{add-assoc}
@@ -10,7 +10,10 @@ use native.Mathlib.Decide.{decLe}
 use native.Mathlib.Omega.{arith}
 use lib.Bits.{bitAnd}
 use lib.Count.{trailingZeros}
-use lib.ListN.{getD}
+use lib.Dec.{leb}
+use lib.ListN.{length, getD, set}
+use lib.Pow.{shr-lt}
+use borrow.Author.Tests.{leb-true}
 use Rattle.bits.specs.Packed.{Packed, bitAt, bitsAt, bitOf, weight}
 use Rattle.bits.proofs.Weight.{weight-and, weight-shr}
 use Rattle.bits.proofs.Run.{bit-of-bits, bit-lt}
@@ -18,15 +21,17 @@ use Rattle.rules.specs.declared.Method.the-variants.{Wide}
 use Rattle.rules.specs.Ranges.{keep}
 use Rattle.rules.specs.Pattern.{Pattern}
 use Rattle.rules.specs.Occurrence.{places, matches, occurs, occurrences}
-use Rattle.rules.specs.Wide.{wideFinds}
-use Rattle.rules.specs.Step.{finds}
+use Rattle.rules.specs.Wide.{window, wideFinds}
+use Rattle.rules.specs.Step.{finds, next}
 use Rattle.matcher.specs.Tables.{passes, WideTables}
-use Rattle.matcher.specs.Progress.{textOf}
-use Rattle.wide.specs.Flags.{Stand, Keeps}
-use Rattle.rules.proofs.Ranges.{not-true-false, among-same}
-use Rattle.rules.proofs.Occurrence.{matches-at, occurs-inside, none-from-places, occurrences-append, occurrences-one, occurrences-further, occurrences-to}
+use Rattle.matcher.specs.Progress.{textOf, Writing, Stepped}
+use Rattle.wide.specs.Flags.{Stand, Keeps, Leaves, Seen, Looked, stop}
+use Rattle.rules.proofs.Ranges.{and-left, and-right, not-true-false, among-same}
+use Rattle.rules.proofs.Occurrence.{matches-at, occurs-inside, none-from-places, occurrences-none, occurrences-append, occurrences-one, occurrences-further, occurrences-to}
 use Rattle.rules.proofs.Wide.{flagged-occurs}
-use Rattle.wide.proofs.WideTables.{bitFor, weight-zero, weight-ones, trailing-below, passes-to}
+use Rattle.matcher.proofs.Writing.{writing-none, writing-more, stepped-whole, stepped-full}
+use Rattle.wide.proofs.WideTables.{bitFor, weight-zero, weight-ones, trailing-below, trailing-lt, passes-to}
+use Rattle.wide.proofs.WideMoves.{next-end, next-chosen}
 
 -- One window bit after the other
 
@@ -52,7 +57,7 @@ NoneFrom t w a b = (p : ℕ) → a ≤ p → p < b → matches t w p ≡ false
 module _ (t : Packed) (w : Pattern) where
   -- Flags of the 64 places from s on
 
-  pub stand-all : (s : ℕ) → Stand t w s (s + 64) 18446744073709551615
+  stand-all : (s : ℕ) → Stand t w s (s + 64) 18446744073709551615
   unfolding Stand
   stand-all s p l u e = weight-ones 64 (p - s) (omega arith)
 
@@ -64,12 +69,12 @@ module _ (t : Packed) (w : Pattern) where
       let there : p + (q - (p - s)) ≡ s + q = omega arith in
       rw there at (matches-at t w p e (q - (p - s)) b))
 
-  pub stand-keep : (cells : List ℕ) (s q x f r : ℕ) → WideTables w cells → q + 8 ≤ 63 + w .count → x ≡ bitsAt (t .bytes) (s + q) 8
-      → Keeps cells q x f r → Stand t w s (s + 64) f → Stand t w s (s + 64) r
+  stand-keep : (cells : List ℕ) (s q f r : ℕ) → WideTables w cells → q + 8 ≤ 63 + w .count
+      → Keeps cells q (bitsAt (t .bytes) (s + q) 8) f r → Stand t w s (s + 64) f → Stand t w s (s + 64) r
   unfolding Stand Keeps
-  stand-keep cells s q x f r tables h e k st p l u m =
+  stand-keep cells s q f r tables h k st p l u m =
       k (p - s) (st p l u m) (λ j b.
-      let bit : bitOf 8 x j ≡ bitAt (t .bytes) (s + (q + j)) = ap (λ (y : ℕ). bitOf 8 y j) e ∙ bit-of-bits (t .bytes) (s + q) b ∙ ap (bitAt (t .bytes)) (add-assoc s q j) in
+      let bit : bitOf 8 (bitsAt (t .bytes) (s + q) 8) j ≡ bitAt (t .bytes) (s + (q + j)) = bit-of-bits (t .bytes) (s + q) b ∙ ap (bitAt (t .bytes)) (add-assoc s q j) in
       ap (λ (c : ℕ). weight (getD cells (2 * (q + j) + c) 0) (p - s)) bit
       ∙ tables .flags-are (q + j) (bitAt (t .bytes) (s + (q + j))) (p - s) (omega arith) (bit-lt (t .bytes) (s + (q + j))) (omega arith)
       ∙ ap bitFor (passes-match s p (q + j) l m))
@@ -92,9 +97,6 @@ module _ (t : Packed) (w : Pattern) where
   pub none-below : (a b f : ℕ) → Stand t w a b f → a + trailingZeros 64 f ≤ b → NoneFrom t w a (a + trailingZeros 64 f)
   none-below a b f st h p l u = none-where-unset a b f p st l (omega arith) (trailing-below 64 f (p - a) (omega arith))
 
-  pub none-below-end : (a b f : ℕ) → Stand t w a b f → b ≤ a + trailingZeros 64 f → NoneFrom t w a b
-  none-below-end a b f st h p l u = none-where-unset a b f p st l u (trailing-below 64 f (p - a) (omega arith))
-
   pub none-join : (a b d : ℕ) → NoneFrom t w a b → NoneFrom t w b d → NoneFrom t w a d
   none-join a b d f g p l u = elim (decLe b p) [ yes h ↦ g p h u | no h ↦ f p l (omega arith) ]
 
@@ -107,6 +109,69 @@ module _ (t : Packed) (w : Pattern) where
   stand-shift a b f z st p l u m =
       let there : z + (p - (a + z)) ≡ p - a = omega arith in
       weight-shr f z (p - (a + z)) ∙ ap (weight f) there ∙ st p (omega arith) u m
+
+-- Flags that a scan leaves
+
+pub both-le : (a b c d : ℕ) → (leb a b && leb c d) ≡ true → (a ≤ b) × (c ≤ d)
+both-le a b c d e = (leb-true a b (and-left (leb a b) (leb c d) e), leb-true c d (and-right (leb a b) (leb c d) e))
+
+module _ (t : Packed) (m : ℕ) (cells : List ℕ) (s f : ℕ) where
+  pub leaves-same : Leaves t m cells s f f
+  unfolding Leaves
+  leaves-same w e tables st = st
+
+  pub leaves-more : (g r : ℕ) → Leaves t m cells s f g → Leaves t m cells s g r → Leaves t m cells s f r
+  unfolding Leaves
+  leaves-more g r h k w e tables st = k w e tables (h w e tables st)
+
+  pub leaves-keep : (g r q : ℕ) → Leaves t m cells s f g → Keeps cells q (bitsAt (t .bytes) (s + q) 8) g r → q + 8 ≤ 63 + m → Leaves t m cells s f r
+  unfolding Leaves
+  leaves-keep g r q h k l w e tables st = stand-keep t w cells s q g r tables (omega arith) k (h w e tables st)
+
+-- What a step sees
+
+module _ (bytes : List ℕ) (n m : ℕ) (cells : List ℕ) (zero one s : ℕ) where
+  abbrev t : Packed
+  t = textOf bytes n
+
+  -- the last step: its places are those below E
+  pub looked-end : s + m ≤ n → n ≤ s + 63 + m → Looked t m cells zero one s (n - m + 1) (18446744073709551615 / 2 ^ (s + 63 + m - n))
+  unfolding Stand
+  looked-end low up =
+      record {
+        seen = λ w e tables mz mo.
+            let end : n - m + 1 ≡ places t w = omega arith in
+            let size : min (s + 64) (places t w) - s ≡ 64 - (s + 63 + m - n) = omega arith in
+            record {
+              mark = end ∙ sym (next-end t w s (omega arith));
+              stand = stand-left w (s + 63 + m - n) (min (s + 64) (places t w)) (omega arith);
+              inside = rw size (shr-lt (64 - (s + 63 + m - n)) (s + 63 + m - n) (all (s + 63 + m - n) (omega arith)));
+            };
+      }
+    where
+      all : (k : ℕ) → k ≤ 64 → 18446744073709551615 < 2 ^ (64 - k + k)
+      all k h = let size : 64 - k + k ≡ 64 = omega arith in rw size (omega arith)
+
+      stand-left : (w : Pattern) (k b : ℕ) → b + k ≤ s + 64 → Stand (textOf bytes 0) w s b (18446744073709551615 / 2 ^ k)
+      stand-left w k b h p l u e = weight-shr 18446744073709551615 k (p - s) ∙ weight-ones 64 (k + (p - s)) (omega arith)
+
+  -- the window lies whole in the text: all 64 places lie below E
+  pub looked-on : (c to f : ℕ) → s + 63 + m < n → c ≡ bitAt bytes (s + 63 + m) → to ≡ min (s + ((1 - c) * zero + c * one)) (n - m + 1)
+      → f < 2 ^ 64 → Leaves (textOf bytes 0) m cells s 18446744073709551615 f → Looked t m cells zero one s to f
+  unfolding Leaves
+  looked-on c to f inside e there fits leaves =
+      record {
+        seen = λ w same tables mz mo.
+            let end : n - m + 1 ≡ places t w = omega arith in
+            let after : s + 63 + m ≡ s + window w = omega arith in
+            let stop : min (s + 64) (places t w) ≡ s + 64 = omega arith in
+            let size : min (s + 64) (places t w) - s ≡ 64 = omega arith in
+            record {
+              mark = there ∙ ap (min (s + ((1 - c) * zero + c * one))) end ∙ next-chosen t w s c zero one (omega arith) (e ∙ ap (bitAt bytes) after) mz mo;
+              stand = rw stop (leaves w same tables (stand-all (textOf bytes 0) w s));
+              inside = rw size fits;
+            };
+      }
 
 -- What a step finds
 
@@ -123,7 +188,7 @@ module _ (t : Packed) (w : Pattern) where
       go (yes h) = none-from-places t w p h
       go (no h) = occurs-inside t w p (omega arith) ∙ sym (counted t w p) ∙ n p l u
 
-  pub wide-finds : (s : ℕ) → s < places t w → finds Wide t w s ≡ occurrences t w s (min (s + 64) (places t w))
+  wide-finds : (s : ℕ) → s < places t w → finds Wide t w s ≡ occurrences t w s (min (s + 64) (places t w))
   unfolding finds wideFinds occurrences
   wide-finds s h =
       let count : s + 64 - s ≡ 64 = omega arith in
@@ -136,9 +201,9 @@ module _ (t : Packed) (w : Pattern) where
   passed-none s a p low up none = occurrences-further t w s a p low up (none-occurs a p none)
 
   -- nothing is left to be found from a on
-  pub finds-passed : (s a stop : ℕ) → s < places t w → stop ≡ min (s + 64) (places t w) → s ≤ a → a ≤ stop
-      → NoneFrom (textOf (t .bytes) 0) w a stop → finds Wide t w s ≡ occurrences t w s a
-  finds-passed s a stop h e low up none = wide-finds s h ∙ ap (occurrences t w s) (sym e) ∙ sym (passed-none s a stop low up none)
+  pub finds-passed : (s a : ℕ) → s < places t w → s ≤ a → a ≤ stop t w s → NoneFrom (textOf (t .bytes) 0) w a (stop t w s)
+      → occurrences t w s a ≡ finds Wide t w s
+  finds-passed s a h low up none = passed-none s a (stop t w s) low up none ∙ sym (wide-finds s h)
 
   -- it stands at p
   module _ (s a p : ℕ) (low : s ≤ a) (up : a ≤ p) (none : NoneFrom (textOf (t .bytes) 0) w a p) (inside : p < places t w) (hit : matches (textOf (t .bytes) 0) w p ≡ true) where
@@ -150,10 +215,100 @@ module _ (t : Packed) (w : Pattern) where
         occurrences-append t w s p (p + 1) (omega arith) (omega arith)
         ∙ ap₂ _++_ (sym (passed-none s a p low up none)) one
 
-    -- and the rest of the step lies behind it
-    pub passed-rest : (stop : ℕ) → p < stop → occurrences t w s stop ≡ occurrences t w s a ++ p ∷ occurrences t w (p + 1) stop
-    passed-rest stop h =
-        occurrences-append t w s p stop (omega arith) (omega arith)
+    -- and the rest of the step lies after it
+    pub passed-rest : p < stop t w s → finds Wide t w s ≡ occurrences t w s a ++ p ∷ occurrences t w (p + 1) (stop t w s)
+    passed-rest h =
+        wide-finds s (omega arith)
+        ∙ occurrences-append t w s p (stop t w s) (omega arith) (omega arith)
         ∙ ap₂ _++_ (sym (passed-none s a p low up none))
-        (occurrences-append t w p (p + 1) stop (omega arith) (omega arith)
-        ∙ ap (λ (o : List ℕ). o ++ occurrences t w (p + 1) stop) one)
+        (occurrences-append t w p (p + 1) (stop t w s) (omega arith) (omega arith)
+        ∙ ap (λ (o : List ℕ). o ++ occurrences t w (p + 1) (stop t w s)) one)
+
+-- Flags settled lowest first
+
+shifted : (f d z : ℕ) → z < d → f < 2 ^ d → f / 2 ^ z / 2 ^ 1 < 2 ^ (d - (z + 1))
+shifted f d z l h =
+    let size : d ≡ d - (z + 1) + 1 + z = omega arith in
+    shr-lt (d - (z + 1)) 1 (shr-lt (d - (z + 1) + 1) z (rw size at h))
+
+-- the places of a step at s before `at` are settled, and f has the flags of those from there on
+pub record Settling (t : Packed) (w : Pattern) (s : ℕ) (before : List ℕ) (had : ℕ) (list : List ℕ) (at f hits : ℕ) : Type 0 where
+  pub from : s ≤ at
+  pub upto : at ≤ stop t w s
+  pub flags : f < 2 ^ (stop t w s - at)
+  pub stand : Stand (textOf (t .bytes) 0) w at (stop t w s) f
+  pub writing : Writing before had (occurrences t w s at) list hits
+
+module _ (t : Packed) (w : Pattern) (s : ℕ) (before : List ℕ) (had : ℕ) (there : s < places t w) where
+  pub settling-none : (to f : ℕ) → Seen t w s to f → had ≤ length before → Settling t w s before had before s f had
+  settling-none to f v h =
+      record {
+        from = omega arith;
+        upto = omega arith;
+        flags = v .inside;
+        stand = v .stand;
+        writing = rw (occurrences-none t w s s (λ p l u. absurd (omega arith))) (writing-none before had h);
+      }
+
+  -- no flag is left
+  pub settled : (to : ℕ) (list : List ℕ) (at f hits : ℕ) → Settling t w s before had list at f hits → f ≡ 0 → to ≡ next Wide t w s
+      → Stepped Wide t w s before had to hits false list
+  settled to list at f hits g e m =
+      rw m (stepped-whole Wide t w s before had list hits
+      (rw (finds-passed t w s at there (g .from) (g .upto) (stand-none (textOf (t .bytes) 0) w at (stop t w s) (rw e at (g .stand)))) at (g .writing)))
+
+  module _ (list : List ℕ) (at f hits : ℕ) (g : Settling t w s before had list at f hits) (some : f ≡ 0 → ⊥) where
+    -- the place of the lowest flag
+    p : ℕ
+    p = at + trailingZeros 64 f
+
+    pub lowest : at + trailingZeros 64 f < stop t w s
+    lowest = omega (arith, trailing-lt 64 (stop t w s - at) f (g .flags) some)
+
+    none : NoneFrom (textOf (t .bytes) 0) w at p
+    unfolding p
+    none = none-below (textOf (t .bytes) 0) w at (stop t w s) f (g .stand) (omega (arith, lowest))
+
+    -- the flags after it
+    fewer : f / 2 ^ trailingZeros 64 f / 2 ^ 1 < 2 ^ (stop t w s - (at + trailingZeros 64 f + 1))
+    fewer =
+        let size : stop t w s - (at + trailingZeros 64 f + 1) ≡ stop t w s - at - (trailingZeros 64 f + 1) = omega arith in
+        rw size (shifted f (stop t w s - at) (trailingZeros 64 f) (omega (arith, lowest)) (g .flags))
+
+    others : Stand (textOf (t .bytes) 0) w (at + trailingZeros 64 f + 1) (stop t w s) (f / 2 ^ trailingZeros 64 f / 2 ^ 1)
+    others =
+        stand-shift (textOf (t .bytes) 0) w (at + trailingZeros 64 f) (stop t w s) (f / 2 ^ trailingZeros 64 f) 1
+        (stand-shift (textOf (t .bytes) 0) w at (stop t w s) f (trailingZeros 64 f) (g .stand))
+
+    on : (list' : List ℕ) (hits' : ℕ) → Writing before had (occurrences t w s (p + 1)) list' hits'
+        → Settling t w s before had list' (at + trailingZeros 64 f + 1) (f / 2 ^ trailingZeros 64 f / 2 ^ 1) hits'
+    unfolding p
+    on list' hits' u = record { from = omega (arith, g .from); upto = omega (arith, lowest); flags = fewer; stand = others; writing = u }
+
+    -- the pattern does not stand there
+    pub settling-miss : matches (textOf (t .bytes) 0) w (at + trailingZeros 64 f) ≡ false
+        → Settling t w s before had list (at + trailingZeros 64 f + 1) (f / 2 ^ trailingZeros 64 f / 2 ^ 1) hits
+    unfolding p
+    settling-miss e =
+        let gone : occurrences t w s at ≡ occurrences t w s (p + 1)
+        = passed-none t w s at (p + 1) (g .from) (omega arith) (none-join (textOf (t .bytes) 0) w at p (p + 1) none (none-one (textOf (t .bytes) 0) w p e)) in
+        on list hits (rw gone at (g .writing))
+
+    module _ (hit : matches (textOf (t .bytes) 0) w (at + trailingZeros 64 f) ≡ true) where
+      -- it does, and there is a cell
+      pub settling-hit : hits < length before
+          → Settling t w s before had (set list hits (at + trailingZeros 64 f)) (at + trailingZeros 64 f + 1) (f / 2 ^ trailingZeros 64 f / 2 ^ 1) (hits + 1)
+      unfolding p
+      settling-hit h =
+          on (set list hits p) (hits + 1)
+          (rw (passed-hit t w s at p (g .from) (omega arith) none (omega (arith, lowest)) hit) (writing-more before had (occurrences t w s at) list hits p (g .writing) h))
+
+      -- it does, and there is none
+      pub settling-full : length before ≤ hits → Stepped Wide t w s before had (at + trailingZeros 64 f) hits true list
+      unfolding p
+      settling-full h =
+          let full : hits ≡ length before = omega (arith, g .writing .fits) in
+          rw full
+          (stepped-full Wide t w s before had (occurrences t w s at) (occurrences t w (p + 1) (stop t w s)) list p (omega (arith, g .writing .count))
+          (passed-rest t w s at p (g .from) (omega arith) none (omega (arith, lowest)) hit lowest)
+          (rw full at (g .writing)))

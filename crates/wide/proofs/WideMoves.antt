@@ -2,16 +2,18 @@
 -- Assumes nothing.
 use mathlib.Core.Path.{_≡_, refl, sym, ap, _∙_}
 use mathlib.Core.Logic.{⊎-elim}
-use mathlib.Core.Bool.{Bool, false, true≢false}
+use mathlib.Core.Bool.{Bool, true, false, true≢false, _&&_}
 use mathlib.Core.List.{List}
 use mathlib.Core.Option.{Option, none, some}
 use Prim.Native.Nat.{ℕ, suc, _+_, _-_, _*_, _^_, _≤_, _<_, min}
 use native.Mathlib.Decide.{decLe}
 use native.Mathlib.Omega.{arith}
 use lib.Count.{trailingZeros, trailing-le}
+use lib.Dec.{ltb, eqb}
 use lib.ListN.{getD}
-use borrow.Author.Tests.{le-leb, lt-leb}
+use borrow.Author.Tests.{le-leb, lt-leb, lt-ltb, ltb-true, eqb-true, eqb-false}
 use Rattle.bits.specs.Packed.{Packed, bitAt, weight}
+use Rattle.bits.proofs.Run.{bit-lt}
 use Rattle.rules.specs.declared.Method.the-variants.{Wide}
 use Rattle.rules.specs.Ranges.{greatest}
 use Rattle.rules.specs.Pattern.{Pattern, agrees}
@@ -20,8 +22,8 @@ use Rattle.rules.specs.Wide.{window, lastIndex, beyond, wideNext}
 use Rattle.rules.specs.Step.{ahead, next}
 use Rattle.matcher.specs.Tables.{WideTables}
 use Rattle.wide.specs.Flags.{Move}
-use Rattle.rules.proofs.Ranges.{Greatest, IsGreatest, greatest-is}
-use Rattle.wide.proofs.WideTables.{bitFor, bit-or-bit, bit-lit, bit-unlit, weight-zero, trailing-below, trailing-at, trailing-lt, passes-in, passes-low}
+use Rattle.rules.proofs.Ranges.{and-left, and-right, Greatest, IsGreatest, greatest-is}
+use Rattle.wide.proofs.WideTables.{bitFor, bit-or-bit, bit-lit, bit-unlit, trailing-below, trailing-at, passes-in}
 
 -- there is one greatest number, and it is the one that is found
 greatest-some : (f : ℕ → Bool) (k j : ℕ) → Greatest f k j → greatest f k ≡ some j
@@ -42,6 +44,10 @@ greatest-none f k n = go (greatest f k) (greatest-is f k)
     go : (o : Option ℕ) → IsGreatest f k o → o ≡ none
     go none h = refl
     go (some i) h = absurd (true≢false (sym (h .passes) ∙ n i (h .below)))
+
+-- the test of the search for the greatest index
+pub going-down : (k i : ℕ) → (ltb 0 k && eqb i 64) ≡ true → (0 < k) × (i ≡ 64)
+going-down k i e = (ltb-true 0 k (and-left (ltb 0 k) (eqb i 64) e), eqb-true i 64 (and-right (ltb 0 k) (eqb i 64) e))
 
 module _ (w : Pattern) (c : ℕ) where
   move-some : (j : ℕ) → Greatest (λ k. agrees w k c) (w .count) j → Move w c (64 + w .count - suc j)
@@ -69,11 +75,31 @@ module _ (w : Pattern) (c : ℕ) where
   abbrev pub NotFrom : ℕ → Type 0
   NotFrom k = (p : ℕ) → k ≤ p → p < w .count → agrees w p c ≡ false
 
-  pub not-from-count : NotFrom (w .count)
-  not-from-count p l u = absurd (omega arith)
+  -- the search has come down to k: where the flags last looked at have one that is set, the bit before k is c
+  pub record Down (k i : ℕ) : Type 0 where
+    pub above : NotFrom k
+    pub here : i < 64 → 0 < k → agrees w (k - 1) c ≡ true
 
-  pub move-end : NotFrom 0 → Move w c (64 + w .count)
-  move-end n = move-none (λ p u. n p (omega arith) u)
+  pub down-start : (m : ℕ) → w .count ≡ m → Down m 64
+  down-start m e = record { above = λ p l u. absurd (omega arith); here = λ l. absurd (omega arith) }
+
+  pub down-end : (k i : ℕ) → Down k i → k ≤ w .count → i ≤ 64 → (ltb 0 k && eqb i 64) ≡ false → Move w c (64 + w .count - k)
+  down-end k i d inside top e = go (decLe 1 k)
+    where
+      go : Dec (1 ≤ k) → Move w c (64 + w .count - k)
+      go (no l) =
+          let size : 64 + w .count - k ≡ 64 + w .count = omega arith in
+          rw size (move-none (λ p u. d .above p (omega arith) u))
+      go (yes l) =
+          let off : eqb i 64 ≡ false = rw (lt-ltb 0 k l) at e in
+          let other : i ≡ 64 → ⊥ = eqb-false i 64 off in
+          let back : suc (k - 1) ≡ k = omega arith in
+          rw back at (move-some (k - 1)
+          (record {
+            below = omega arith;
+            passes = d .here (omega arith) l;
+            above = λ p a u. d .above p (omega arith) u;
+          }))
 
   -- the flags of the window bit before index k
   module _ (cells : List ℕ) (t : WideTables w cells) (two : c < 2) (k : ℕ) (some-left : 0 < k) (inside : k ≤ w .count) (rest : NotFrom k) where
@@ -109,56 +135,35 @@ module _ (w : Pattern) (c : ℕ) where
     unfolding z
     low i l = trailing-below 64 flags i l
 
-    -- the lowest flag that is set is that of an index
-    pub move-found : (flags ≡ 0 → ⊥) → flags < 2 ^ 64 → trailingZeros 64 flags < k → Move w c (64 + w .count - (k - trailingZeros 64 flags))
+    -- the lowest flag that is set, if there is one, is that of an index
+    pub down-found : trailingZeros 64 flags < k → Down (k - trailingZeros 64 flags) (trailingZeros 64 flags)
     unfolding z
-    move-found ne fit l =
-        let lit : z < 64 = trailing-lt 64 flags fit ne in
-        let back : k - 1 - (k - 1 - z) ≡ z = omega arith in
-        let above : NotFrom (suc (k - 1 - z)) = not-from (suc (k - 1 - z)) (λ i u. (omega arith, low i (omega arith))) in
-        let size : 64 + w .count - suc (k - 1 - z) ≡ 64 + w .count - (k - z) = omega arith in
-        ap-move size
-        (move-some (k - 1 - z)
-        (record {
-          below = omega arith;
-          passes = bit-lit _ (sym (of-index (k - 1 - z) (omega arith) (omega arith)) ∙ ap (weight flags) back ∙ trailing-at 64 flags lit);
-          above = λ p a u. above p a u;
-        }))
-      where
-        ap-move : {a b : ℕ} → a ≡ b → Move w c a → Move w c b
-        ap-move e m = rw (← e) m
+    down-found l =
+        record {
+          above = not-from (k - z) (λ i u. (omega (arith, z-le), low i (omega arith)));
+          here = λ lit u.
+              let back : k - 1 - (k - z - 1) ≡ z = omega arith in
+              bit-lit _ (sym (of-index (k - z - 1) (omega arith) (omega arith)) ∙ ap (weight flags) back ∙ trailing-at 64 flags lit);
+        }
 
     -- it is that of no index
-    pub move-missing : k ≤ trailingZeros 64 flags → Move w c (64 + w .count)
+    pub down-missing : k ≤ trailingZeros 64 flags → Down 0 (trailingZeros 64 flags)
     unfolding z
-    move-missing l = move-end (not-from 0 (λ i u. (omega (arith, z-le), low i (omega arith))))
-
-    -- no flag is set: there are 64 indices, and none has bit c
-    pub flags-none : flags ≡ 0 → (64 ≤ k) × NotFrom (k - 64)
-    flags-none e = (go (decLe 64 k), not-from (k - 64) (λ i u. (omega arith, nothing i)))
-      where
-        nothing : (i : ℕ) → weight flags i ≡ 0
-        nothing i = ap (λ (x : ℕ). weight x i) e ∙ weight-zero i
-
-        go : Dec (64 ≤ k) → 64 ≤ k
-        go (yes h) = h
-        go (no n) =
-            let one : weight flags k ≡ 1 = t .flags-are (k - 1) c k (omega arith) two (omega arith) ∙ ap bitFor (passes-low w c (k - 1) k (omega arith)) in
-            absurd (omega (arith, nothing k))
+    down-missing l = record { above = not-from 0 (λ i u. (omega (arith, z-le), low i (omega arith))); here = λ a u. absurd (omega arith) }
 
 -- One of two by a bit
 
 pub times-bit : (c x b : ℕ) → c < 2 → x ≤ b → c * x ≤ b
 times-bit c x b l h = ⊎-elim (λ e. rw e (omega arith)) (λ e. rw e (omega arith)) (bit-or-bit c l)
 
-pub chosen-zero : (c x y : ℕ) → c ≡ 0 → (1 - c) * x + c * y ≡ x
-chosen-zero c x y e = rw e (omega arith)
+chosen-move : (w : Pattern) (c x y : ℕ) → c < 2 → Move w 0 x → Move w 1 y → Move w c ((1 - c) * x + c * y)
+chosen-move w c x y l mx my = ⊎-elim (λ e. rw (zero e) (rw e mx)) (λ e. rw (one e) (rw e my)) (bit-or-bit c l)
+  where
+    zero : c ≡ 0 → (1 - c) * x + c * y ≡ x
+    zero e = rw e (omega arith)
 
-pub chosen-one : (c x y : ℕ) → c ≡ 1 → (1 - c) * x + c * y ≡ y
-chosen-one c x y e = rw e (omega arith)
-
-pub chosen-move : (w : Pattern) (c x y r : ℕ) → c < 2 → Move w 0 x → Move w 1 y → (c ≡ 0 → r ≡ x) → (c ≡ 1 → r ≡ y) → Move w c r
-chosen-move w c x y r l mx my f g = ⊎-elim (λ e. rw (f e) (rw e mx)) (λ e. rw (g e) (rw e my)) (bit-or-bit c l)
+    one : c ≡ 1 → (1 - c) * x + c * y ≡ y
+    one e = rw e (omega arith)
 
 -- The next mark
 
@@ -168,7 +173,11 @@ module _ (t : Packed) (w : Pattern) (s : ℕ) where
   unfolding next ahead wideNext
   next-end h = rw (le-leb _ _ h) (omega arith)
 
-  -- the bit behind the window tells
-  pub next-move : (c r : ℕ) → s + window w < t .count → bitAt (t .bytes) (s + window w) ≡ c → Move w c r → next Wide t w s ≡ min (s + r) (places t w)
+  -- the bit after the window tells
+  next-move : (c r : ℕ) → s + window w < t .count → bitAt (t .bytes) (s + window w) ≡ c → Move w c r → next Wide t w s ≡ min (s + r) (places t w)
   unfolding next ahead wideNext
   next-move c r h e m = rw (lt-leb _ _ h, e, m .ahead s)
+
+  pub next-chosen : (c x y : ℕ) → s + window w < t .count → c ≡ bitAt (t .bytes) (s + window w) → Move w 0 x → Move w 1 y
+      → min (s + ((1 - c) * x + c * y)) (places t w) ≡ next Wide t w s
+  next-chosen c x y h e mx my = sym (next-move c _ h (sym e) (chosen-move w c x y (rw e (bit-lt (t .bytes) (s + window w))) mx my))

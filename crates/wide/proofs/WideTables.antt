@@ -12,7 +12,7 @@ use native.Mathlib.Omega.{arith}
 use lib.Dec.{leb, ltb}
 use lib.Count.{trailingZeros, under}
 use lib.ListN.{length, getD, drop, set, List·getD-eq-default}
-use lib.Pow.{high, ones-lt, ones-split}
+use lib.Pow.{pow-pos, high, ones-lt, ones-split}
 use borrow.Author.Tests.{ltb-true, lt-ltb, leb-true, le-leb}
 use Rattle.bits.specs.Packed.{weight}
 use Rattle.bits.proofs.Weight.{weight-shr, same-weights}
@@ -85,11 +85,11 @@ trailing-at (suc k) n h = go (n % 2) refl (trailing-at k (n / 2)) h
     go zero e ih h = half-weight n (trailingZeros k (n / 2)) ∙ ih (le-of-suc-le-suc h)
     go (suc d) e ih h = omega arith
 
-pub trailing-lt : (k n : ℕ) → n < 2 ^ k → (n ≡ 0 → ⊥) → trailingZeros k n < k
-trailing-lt k n h ne = go (decLe k (trailingZeros k n))
+pub trailing-lt : (j k n : ℕ) → n < 2 ^ k → (n ≡ 0 → ⊥) → trailingZeros j n < k
+trailing-lt j k n h ne = go (decLe k (trailingZeros j n))
   where
-    go : Dec (k ≤ trailingZeros k n) → trailingZeros k n < k
-    go (yes l) = absurd (ne (same-weights k n 0 h (omega arith) (λ i u. trailing-below k n i (omega arith) ∙ sym (weight-zero i))))
+    go : Dec (k ≤ trailingZeros j n) → trailingZeros j n < k
+    go (yes l) = absurd (ne (same-weights k n 0 h (pow-pos k) (λ i u. trailing-below j n i (omega arith) ∙ sym (weight-zero i))))
     go (no l) = omega arith
 
 -- A flag of a window bit

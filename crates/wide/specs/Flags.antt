@@ -1,27 +1,19 @@
 -- What the parts of the wide method promise each other: eight window bits at a time as they enter the table, flags that
 -- still stand, and the move to the next mark.
-use Prim.Native.Nat.{ℕ, _+_, _-_, _*_, _/_, _%_, _^_, _≤_, _<_}
+use Prim.Native.Nat.{ℕ, _+_, _-_, _*_, _/_, _%_, _^_, _≤_, _<_, min}
 use mathlib.Core.Path.{_≡_}
 use mathlib.Core.Bool.{true, cond}
 use mathlib.Core.List.{List}
 use lib.Bits.{bitOr}
-use lib.Dec.{leb}
 use lib.ListN.{length, getD, drop}
-use Rattle.bits.specs.Packed.{Packed, bitAt, bitOf, weight}
+use Rattle.bits.specs.Packed.{Packed, bitOf, weight}
 use Rattle.rules.specs.Pattern.{Pattern}
-use Rattle.rules.specs.Occurrence.{matches}
+use Rattle.rules.specs.declared.Method.the-variants.{Wide}
+use Rattle.rules.specs.Occurrence.{places, matches}
 use Rattle.rules.specs.Wide.{window, lastIndex, beyond}
-use Rattle.matcher.specs.Tables.{passes}
-
--- Of the eight window bits from q on, those from m on are set in y, and no other.
-pub record Padding (m q y : ℕ) : Type 0 where
-  pub small : y < 2 ^ 8
-  pub bits : (j : ℕ) → j < 8 → bitOf 8 y j ≡ cond (leb m (q + j)) 1 0
-
--- y has the pattern's bits from q on, as far as the pattern and eight bits go.
-pub record ByteFrom (w : Pattern) (q y : ℕ) : Type 0 where
-  pub small : y < 2 ^ 8
-  pub bits : (j : ℕ) → j < 8 → q + j < w .count → bitOf 8 y j ≡ bitAt (w .bytes) (q + j)
+use Rattle.rules.specs.Step.{next}
+use Rattle.matcher.specs.Tables.{passes, WideTables}
+use Rattle.matcher.specs.Progress.{textOf}
 
 -- y has flag 0 of each of the eight window bits from q on, being c.
 pub record Enters (w : Pattern) (c q y : ℕ) : Type 0 where
@@ -50,7 +42,30 @@ unfoldable pub Keeps : List ℕ → ℕ → ℕ → ℕ → ℕ → Type 0
 Keeps cells q x f r =
     (i : ℕ) → weight f i ≡ 1 → ((j : ℕ) → j < 8 → weight (getD cells (2 * (q + j) + bitOf 8 x j) 0) i ≡ 1) → weight r i ≡ 1
 
--- r is how far the next mark lies ahead where the bit behind the window is c
+-- For each pattern of m bits whose table this is: the flags of occurrences, of those from s on, that stand in f stand in r.
+unfoldable pub Leaves : Packed → ℕ → List ℕ → ℕ → ℕ → ℕ → Type 0
+Leaves t m cells s f r = (w : Pattern) → w .count ≡ m → WideTables w cells → Stand t w s (s + 64) f → Stand t w s (s + 64) r
+
+-- r is how far the next mark lies ahead where the bit after the window is c
 pub record Move (w : Pattern) (c r : ℕ) : Type 0 where
   pub ahead : (s : ℕ) → beyond (s + window w) (lastIndex w c) ≡ s + r
   pub short : r ≤ 64 + w .count
+
+-- It is that for each pattern of m bits whose table this is.
+pub record Moves (m : ℕ) (cells : List ℕ) (c r : ℕ) : Type 0 where
+  pub move : (w : Pattern) → w .count ≡ m → WideTables w cells → Move w c r
+  pub short : r ≤ 64 + m
+
+-- the first place that a step at s no longer decides by flags: 64 places on, or E
+abbrev pub stop : Packed → Pattern → ℕ → ℕ
+stop t w s = min (s + 64) (places t w)
+
+-- What a step at s sees: the next mark, the flag of each place at which the pattern stands, and none of a place from E on.
+pub record Seen (t : Packed) (w : Pattern) (s to flags : ℕ) : Type 0 where
+  pub mark : to ≡ next Wide t w s
+  pub stand : Stand (textOf (t .bytes) 0) w s (stop t w s) flags
+  pub inside : flags < 2 ^ (stop t w s - s)
+
+-- It is that for each pattern of m bits whose table and moves these are.
+pub record Looked (t : Packed) (m : ℕ) (cells : List ℕ) (zero one s to flags : ℕ) : Type 0 where
+  pub seen : (w : Pattern) → w .count ≡ m → WideTables w cells → Move w 0 zero → Move w 1 one → Seen t w s to flags

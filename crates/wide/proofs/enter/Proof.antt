@@ -11,10 +11,10 @@ use Rattle.wide.proofs.enter.Statement.{statement}
 use Rattle.wide.proofs.enter.Tie as tie
 
 abbrev Inv-loop : tie.InvT-loop
-Inv-loop q k cells₀ zero one y x at r₀ cells r = (r ≤ k) × Entered cells₀ cells q r zero one y x
+Inv-loop q k zero one y x cells₀ at r₀ cells r = (r ≤ k) × Entered cells₀ cells q r zero one y x
 
 abbrev μ-loop : tie.MeasureT-loop
-μ-loop q k cells₀ zero one y x at r₀ cells r = k - r
+μ-loop q k zero one y x cells₀ at r₀ cells r = k - r
 
 mul-at : tie.Need-mul-at Inv-loop μ-loop
 mul-at c = omega arith
@@ -25,16 +25,22 @@ cast-at c = omega arith
 loop-holds : tie.Need-loop-holds Inv-loop μ-loop
 loop-holds c =
     let a = c .args in
-    (omega arith, entered-none (now (a .cells)) (a .q) (a .old .zero) (a .old .one) (a .new .zero) (a .new .one))
+    (omega arith, entered-none (now (a .cells)) (a .q) (a .zero) (a .one) (a .y) (a .x))
 
-add-cells : tie.Need-add-cells Inv-loop μ-loop
-add-cells c = omega arith
+mul-i : tie.Need-mul-i Inv-loop μ-loop
+mul-i c = omega arith
+
+add-i : tie.Need-add-i Inv-loop μ-loop
+add-i c = omega arith
+
+add-up : tie.Need-add-up Inv-loop μ-loop
+add-up c = omega arith
+
+sub-down : tie.Need-sub-down Inv-loop μ-loop
+sub-down c = omega arith
 
 shl-cells : tie.Need-shl-cells Inv-loop μ-loop
 shl-cells c = omega arith
-
-sub-cells : tie.Need-sub-cells Inv-loop μ-loop
-sub-cells c = omega arith
 
 shr-cells : tie.Need-shr-cells Inv-loop μ-loop
 shr-cells c = omega arith
@@ -42,44 +48,23 @@ shr-cells c = omega arith
 mul-cells : tie.Need-mul-cells Inv-loop μ-loop
 mul-cells c = omega arith
 
-add-cells-2 : tie.Need-add-cells-2 Inv-loop μ-loop
-add-cells-2 c = omega arith
-
-mul-cells-2 : tie.Need-mul-cells-2 Inv-loop μ-loop
-mul-cells-2 c = omega arith
-
 slice-write-cells : tie.Need-slice-write-cells Inv-loop μ-loop
 slice-write-cells c = omega (arith, c .before .loop .inv .1 .size)
-
-add-cells-3 : tie.Need-add-cells-3 Inv-loop μ-loop
-add-cells-3 c = omega arith
 
 shl-cells-2 : tie.Need-shl-cells-2 Inv-loop μ-loop
 shl-cells-2 c = omega arith
 
-sub-cells-2 : tie.Need-sub-cells-2 Inv-loop μ-loop
-sub-cells-2 c = omega arith
-
 shr-cells-2 : tie.Need-shr-cells-2 Inv-loop μ-loop
 shr-cells-2 c = omega arith
 
-mul-cells-3 : tie.Need-mul-cells-3 Inv-loop μ-loop
-mul-cells-3 c = omega arith
+add-cells : tie.Need-add-cells Inv-loop μ-loop
+add-cells c = omega arith
 
-add-cells-4 : tie.Need-add-cells-4 Inv-loop μ-loop
-add-cells-4 c = omega arith
-
-add-cells-5 : tie.Need-add-cells-5 Inv-loop μ-loop
-add-cells-5 c = omega arith
-
-mul-cells-4 : tie.Need-mul-cells-4 Inv-loop μ-loop
-mul-cells-4 c = omega arith
+mul-cells-2 : tie.Need-mul-cells-2 Inv-loop μ-loop
+mul-cells-2 c = omega arith
 
 slice-write-cells-2 : tie.Need-slice-write-cells-2 Inv-loop μ-loop
 slice-write-cells-2 c = simp length-set (omega (arith, c .before .loop .inv .1 .size))
-
-add-r : tie.Need-add-r Inv-loop μ-loop
-add-r c = omega arith
 
 loop-less : tie.Need-loop-less Inv-loop μ-loop
 loop-less c = omega arith
@@ -88,7 +73,7 @@ loop-again : tie.Need-loop-again Inv-loop μ-loop
 loop-again c =
     let a = c .before .before .args in
     let l = c .before .loop in
-    (omega arith, entered-more (now (a .cells)) (l .cells) (a .q) (l .r) (a .old .zero) (a .old .one) (a .new .zero) (a .new .one) (l .inv .1) (omega arith))
+    (omega arith, entered-more (now (a .cells)) (l .cells) (a .q) (l .r) (a .zero) (a .one) (a .y) (a .x) (l .inv .1) (omega arith))
 
 same-length : tie.Need-same-length Inv-loop μ-loop
 same-length c = c .before .loop .inv .1 .size
@@ -109,24 +94,19 @@ enter-spec =
     mul-at
     cast-at
     loop-holds
-    add-cells
+    mul-i
+    add-i
+    add-up
+    sub-down
     shl-cells
-    sub-cells
     shr-cells
     mul-cells
-    add-cells-2
-    mul-cells-2
     slice-write-cells
-    add-cells-3
     shl-cells-2
-    sub-cells-2
     shr-cells-2
-    mul-cells-3
-    add-cells-4
-    add-cells-5
-    mul-cells-4
+    add-cells
+    mul-cells-2
     slice-write-cells-2
-    add-r
     loop-less
     loop-again
     same-length

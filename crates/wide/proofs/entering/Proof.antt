@@ -1,30 +1,58 @@
--- `wide::entering` meets its contract: the pattern's bits, or their opposites, and ones behind the pattern.
+-- `wide::entering` meets its contract: the pattern's bits, or their opposites, and ones after the pattern.
 -- Assumes nothing.
 use borrow.Author.Needs.{needs}
+use mathlib.Core.Logic.{⊎-elim}
+use mathlib.Core.Path.{_≡_}
+use Prim.Native.Nat.{_/_}
+use native.Mathlib.Omega.{arith}
 use denote.Ref.{now}
 use Rattle.matcher.specs.Progress.{patternOf}
-use Rattle.wide.proofs.WideBytes.{enters-zero, enters-one}
+use Rattle.wide.proofs.WideBytes.{Padding, padding-none, padding-some, enters-past, enters-zero, enters-one}
 use Rattle.wide.proofs.entering.Statement.{statement}
 use Rattle.wide.proofs.entering.Tie as tie
 
-padding-requires : tie.Need-padding-requires
-padding-requires c κs = search needs
-
-byte-or-none-requires : tie.Need-byte-or-none-requires
-byte-or-none-requires c κs = search needs
-
-sub-t6 : tie.Need-sub-t6
-sub-t6 c = search needs
-
 returns : tie.Need-returns
 returns c =
-    let a = c .before .before .before .args in
+    let a = c .before .args in
     let w = patternOf (now (a .word)) (a .m) in
-    let pad = c .before .padding in
-    let byte = c .byte-or-none in (
-      enters-zero w (a .q) (byte .result) (pad .result) (pad .ensures) (byte .ensures),
-      enters-one w (a .q) (byte .result) (pad .result) (pad .ensures) (byte .ensures),
-    )
+    (enters-past w 0 (a .q) (omega arith), enters-past w 1 (a .q) (omega arith))
+
+cast-b : tie.Need-cast-b
+cast-b c = search needs
+
+shared-slice-read-b : tie.Need-shared-slice-read-b
+shared-slice-read-b c = search needs
+
+cast-b-2 : tie.Need-cast-b-2
+cast-b-2 c = omega (arith, c .shared-slice-known .given (c .before .before .args .q / 8))
+
+add-if2 : tie.Need-add-if2
+add-if2 c = search needs
+
+sub-pad : tie.Need-sub-pad
+sub-pad c = search needs
+
+cast-pad : tie.Need-cast-pad
+cast-pad c = search needs
+
+shr-pad : tie.Need-shr-pad
+shr-pad c = search needs
+
+sub-t13 : tie.Need-sub-t13
+sub-t13 c = omega (arith, c .before .shared-slice-known .given (c .before .before .before .args .q / 8))
+
+returns-2 : tie.Need-returns-2
+returns-2 c =
+    let s = c .before .before .before .before in
+    let a = s .args in
+    let w = patternOf (now (a .word)) (a .m) in
+    let small = c .before .before .shared-slice-known .given (a .q / 8) .fits in
+    let pad : Padding (a .m) (a .q) (c .before .if2 .pad)
+    = ⊎-elim
+    (λ e. rw (e .1) (padding-some (a .m) (a .q) (omega arith)))
+    (λ e. rw (e .1) (padding-none (a .m) (a .q) (omega (arith, e .0))))
+    (c .before .if2 .came) in
+    (enters-zero w (a .q) (c .before .if2 .pad) pad (omega arith) small, enters-one w (a .q) (c .before .if2 .pad) pad (omega arith) small)
 
 pub entering-spec : {M : Type 1} → statement M
-entering-spec = tie.close (tie.spec padding-requires byte-or-none-requires sub-t6 returns)
+entering-spec = tie.close (tie.spec returns cast-b shared-slice-read-b cast-b-2 add-if2 sub-pad cast-pad shr-pad sub-t13 returns-2)

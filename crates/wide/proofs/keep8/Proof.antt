@@ -1,5 +1,6 @@
 -- `wide::keep8` meets its contract. The loop's invariant: the flags left by the bits passed.
 -- Assumes nothing.
+use mathlib.Core.Path.{sym}
 use Prim.Native.Nat.{_-_, _≤_}
 use native.Mathlib.Omega.{arith}
 use denote.Ref.{now}
@@ -9,13 +10,19 @@ use Rattle.wide.proofs.keep8.Statement.{statement}
 use Rattle.wide.proofs.keep8.Tie as tie
 
 abbrev Inv-loop : tie.InvT-loop
-Inv-loop cells q x flags f₀ j₀ f j = (j ≤ 8) × KeepsTo cells q x flags j f
+Inv-loop text cells q flags at x from f₀ j₀ f j = (j ≤ 8) × KeepsTo cells q x flags j f
 
 abbrev μ-loop : tie.MeasureT-loop
-μ-loop cells q x flags f₀ j₀ f j = 8 - j
+μ-loop text cells q flags at x from f₀ j₀ f j = 8 - j
+
+add-t12 : tie.Need-add-t12 Inv-loop μ-loop
+add-t12 c = omega arith
+
+byte-inside-requires : tie.Need-byte-inside-requires Inv-loop μ-loop
+byte-inside-requires c κs = omega arith
 
 loop-holds : tie.Need-loop-holds Inv-loop μ-loop
-loop-holds c = (omega arith, keeps-none (now (c .args .cells)) (c .args .q) (c .args .x) (c .args .flags))
+loop-holds c = let a = c .before .before .before .args in (omega arith, keeps-none (now (a .cells)) (a .q) (c .byte-inside .result) (a .flags))
 
 sub-c : tie.Need-sub-c Inv-loop μ-loop
 sub-c c = omega arith
@@ -46,15 +53,15 @@ loop-less c = omega arith
 
 loop-again : tie.Need-loop-again Inv-loop μ-loop
 loop-again c =
-    let a = c .before .before .before .args in
+    let a = c .before .before .before .before .before .before .args in
     let l = c .before .before .loop in
-    (omega arith, keeps-more (now (a .cells)) (a .q) (a .x) (a .flags) (l .j) (l .f) (l .inv .1))
+    (omega arith, keeps-more (now (a .cells)) (a .q) (c .before .before .before .byte-inside .result) (a .flags) (l .j) (l .f) (l .inv .1))
 
 returns : tie.Need-returns Inv-loop μ-loop
 unfolding Keeps
 returns c =
     let l = c .before .loop in
-    λ i h g. l .inv .1 i h (λ k u. g k (omega arith))
+    rw (sym (c .before .before .byte-inside .ensures)) (λ i h g. l .inv .1 i h (λ k u. g k (omega arith)))
 
 pub keep8-spec : {M : Type 1} → statement M
 keep8-spec =
@@ -62,6 +69,8 @@ keep8-spec =
     (tie.spec
     Inv-loop
     μ-loop
+    add-t12
+    byte-inside-requires
     loop-holds
     sub-c
     shr-c

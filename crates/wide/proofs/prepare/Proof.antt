@@ -51,7 +51,7 @@ loop-again c =
     let made = c .before .before .before .before .enter in (
       omega arith,
       omega arith,
-      filled-more w (now (a .cells)) (l .cells) (made .last .1 .1 .1 .1 .0) (l .q) 8 (l .zero) (l .one) (new .result .zero) (new .result .one) (l .inv .2) (made .ensures)
+      filled-more w (now (a .cells)) (l .cells) (made .last .1 .1 .1 .1 .1 .1 .0) (l .q) 8 (l .zero) (l .one) (new .result .zero) (new .result .one) (l .inv .2) (made .ensures)
           (omega arith) (omega arith) (l .inv .3) (l .inv .4) (new .ensures .0) (new .ensures .1),
       before-moved w 0 (l .q) (l .zero) (new .result .zero) (l .inv .3) (new .ensures .0),
       before-moved w 1 (l .q) (l .one) (new .result .one) (l .inv .4) (new .ensures .1),
@@ -78,7 +78,7 @@ returns c =
     let w = patternOf (now (a .word)) (a .m) in
     let l = c .before .before .before .before .before .loop in
     let made = c .before .before .enter2 in
-    let f = filled-more w (now (a .cells)) (l .cells) (made .last .1 .1 .1 .1 .0) (l .q) (a .m + 63 - l .q) (l .zero) (l .one) 255 255 (l .inv .2) (made .ensures)
+    let f = filled-more w (now (a .cells)) (l .cells) (made .last .1 .1 .1 .1 .1 .1 .0) (l .q) (a .m + 63 - l .q) (l .zero) (l .one) 255 255 (l .inv .2) (made .ensures)
     (omega arith) (omega arith) (l .inv .3) (l .inv .4) (enters-past w 0 (l .q) (omega arith)) (enters-past w 1 (l .q) (omega arith)) in
     record {
       tables = record { flags-are = λ q b i u v h. f .flags q b i (omega arith) v h };

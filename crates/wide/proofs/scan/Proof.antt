@@ -1,36 +1,100 @@
--- `wide::scan` meets its contract: all flags, or those that one of the two scans leaves.
+-- `wide::scan` meets its contract: one pass, and another where it leaves several flags; or, for a longer pattern, two bytes
+-- after the other. The loop's invariant: the flags of occurrences are left.
 -- Assumes nothing.
 use borrow.Author.Needs.{needs}
+use Prim.Native.Nat.{_+_, _-_, _≤_}
+use native.Mathlib.Omega.{arith}
 use denote.Ref.{now}
-use Rattle.matcher.specs.Progress.{textOf, patternOf}
-use Rattle.wide.proofs.WideFlags.{stand-all}
+use Rattle.matcher.specs.Progress.{textOf}
+use Rattle.wide.specs.Flags.{Leaves}
+use Rattle.wide.proofs.WideFlags.{leaves-same, leaves-more, leaves-keep}
 use Rattle.wide.proofs.scan.Statement.{statement}
 use Rattle.wide.proofs.scan.Tie as tie
 
-add-if1 : tie.Need-add-if1
-add-if1 c = search needs
+abbrev Inv-loop : tie.InvT-loop
+Inv-loop text m cells s f₀ q₀ f q = Leaves (textOf text 0) m cells (s .0) 18446744073709551615 f × (q ≤ 2112)
 
-add-if1-2 : tie.Need-add-if1-2
-add-if1-2 c = search needs
+abbrev μ-loop : tie.MeasureT-loop
+μ-loop text m cells s f₀ q₀ f q = 4096 - q
 
-returns : tie.Need-returns
-returns c =
-    let a = c .before .before .before .before .before .args in
-    stand-all (textOf (now (a .text)) 0) (patternOf (now (a .word)) (a .m)) (a .s .0)
+-- the flags that the two bytes leave
+left : (c : tie.After-keep82 Inv-loop μ-loop)
+    → let a = c .before .before .before .before .before .before .before .args in
+    Leaves (textOf (now (a .text)) 0) (a .m) (now (a .cells)) (a .s .0) 18446744073709551615 (c .keep82 .result)
+left c =
+    let a = c .before .before .before .before .before .before .before .args in
+    let l = c .before .before .before .loop in
+    leaves-keep (textOf (now (a .text)) 0) (a .m) (now (a .cells)) (a .s .0) 18446744073709551615 (c .before .keep8 .result) (c .keep82 .result) (l .q + 8)
+    (leaves-keep (textOf (now (a .text)) 0) (a .m) (now (a .cells)) (a .s .0) 18446744073709551615 (l .f) (c .before .keep8 .result) (l .q) (l .inv .0) (c .before .keep8 .ensures) (omega arith))
+    (c .keep82 .ensures) (omega arith)
 
-scan-short-requires : tie.Need-scan-short-requires
-scan-short-requires c κs = search needs
+pass-requires : tie.Need-pass-requires Inv-loop μ-loop
+pass-requires c κs = search needs
 
-scan-long-requires : tie.Need-scan-long-requires
-scan-long-requires c κs = search needs
+returns : tie.Need-returns Inv-loop μ-loop
+returns c = c .before .pass .ensures
 
-returns-2 : tie.Need-returns-2
-returns-2 c = search needs
+pass-requires-2 : tie.Need-pass-requires-2 Inv-loop μ-loop
+pass-requires-2 c κs = search needs
 
-returns-3 : tie.Need-returns-3
-returns-3 c = search needs
+returns-2 : tie.Need-returns-2 Inv-loop μ-loop
+returns-2 c =
+    let a = c .before .before .before .before .before .before .args in
+    leaves-more (textOf (now (a .text)) 0) (a .m) (now (a .cells)) (a .s .0) 18446744073709551615 (c .before .before .pass .result) (c .pass2 .result) (c .before .before .pass .ensures) (c .pass2 .ensures)
+
+loop-holds : tie.Need-loop-holds Inv-loop μ-loop
+loop-holds c =
+    let a = c .before .before .before .args in
+    (leaves-same (textOf (now (a .text)) 0) (a .m) (now (a .cells)) (a .s .0) 18446744073709551615, omega arith)
+
+add-loop : tie.Need-add-loop Inv-loop μ-loop
+add-loop c = omega arith
+
+add-loop-2 : tie.Need-add-loop-2 Inv-loop μ-loop
+add-loop-2 c = omega arith
+
+keep8-requires : tie.Need-keep8-requires Inv-loop μ-loop
+keep8-requires c κs = omega arith
+
+add-keep8 : tie.Need-add-keep8 Inv-loop μ-loop
+add-keep8 c = omega arith
+
+keep8-requires-2 : tie.Need-keep8-requires-2 Inv-loop μ-loop
+keep8-requires-2 c κs = omega arith
+
+returns-3 : tie.Need-returns-3 Inv-loop μ-loop
+returns-3 c = left (c .before)
+
+add-q : tie.Need-add-q Inv-loop μ-loop
+add-q c = omega arith
+
+loop-less : tie.Need-loop-less Inv-loop μ-loop
+loop-less c = omega arith
+
+loop-again : tie.Need-loop-again Inv-loop μ-loop
+loop-again c = (left (c .before), omega arith)
+
+returns-4 : tie.Need-returns-4 Inv-loop μ-loop
+returns-4 c = c .before .loop .inv .0
 
 pub scan-spec : {M : Type 1} → statement M
 scan-spec =
     tie.close
-    (tie.spec add-if1 add-if1-2 returns scan-short-requires scan-long-requires returns-2 returns-3)
+    (tie.spec
+    Inv-loop
+    μ-loop
+    pass-requires
+    returns
+    pass-requires-2
+    returns-2
+    loop-holds
+    add-loop
+    add-loop-2
+    keep8-requires
+    add-keep8
+    keep8-requires-2
+    returns-3
+    add-q
+    loop-less
+    loop-again
+    returns-4)

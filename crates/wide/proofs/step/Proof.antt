@@ -1,13 +1,10 @@
--- `wide::step` meets its contract: the flags of the 64 places, settled one by one.
+-- `wide::step` meets its contract: what it sees, settled.
 -- Assumes nothing.
-use mathlib.Core.Path.{_≡_, _∙_, ap}
-use Prim.Native.Nat.{_+_, _-_, min}
+use borrow.Author.Needs.{needs}
+use mathlib.Core.Path.{refl}
 use native.Mathlib.Omega.{arith}
 use denote.Ref.{now}
-use Rattle.rules.specs.Occurrence.{places}
-use Rattle.matcher.specs.Progress.{textOf, patternOf}
-use Rattle.wide.proofs.WideFlags.{stand-less}
-use borrow.Author.Needs.{needs}
+use Rattle.matcher.specs.Progress.{patternOf}
 use Rattle.wide.proofs.step.Statement.{statement}
 use Rattle.wide.proofs.step.Tie as tie
 
@@ -17,41 +14,22 @@ move-of-requires c κs = search needs
 move-of-requires-2 : tie.Need-move-of-requires-2
 move-of-requires-2 c κs = search needs
 
-next-mark-requires : tie.Need-next-mark-requires
-next-mark-requires c κs = search needs
-
-add-cut : tie.Need-add-cut
-add-cut c = search needs
-
-sub-cut : tie.Need-sub-cut
-sub-cut c = search needs
-
-add-cut-2 : tie.Need-add-cut-2
-add-cut-2 c = search needs
-
-cut-requires : tie.Need-cut-requires
-cut-requires c κs = search needs
-
-scan-requires : tie.Need-scan-requires
-scan-requires c κs = search needs
+look-requires : tie.Need-look-requires
+look-requires c κs =
+    let s = c .before .before .before .before .before .before in
+    let ready = s .pre .0 in
+    omega (arith, ready .pattern .few-bits, ready .room, ready .inside, ready .few-bits, ready .bytes-there, c .before .move-of .ensures .short, c .move-of2 .ensures .short)
 
 settle-requires : tie.Need-settle-requires
 settle-requires c κs =
-    let s = c .before .before .before .before .before .before .before .before .before .before .before in
+    let s = c .before .before .before .before .before .before .before .before in
+    let ready = s .pre .0 in
     let a = s .args in
-    let t = textOf (now (a .text)) 0 in
+    let zero = c .before .before .before .move-of .ensures in
+    let one = c .before .before .move-of2 .ensures in
     let w = patternOf (now (a .word)) (a .m) in
-    let end : a .n - a .m + 1 ≡ places (textOf (now (a .text)) (a .n)) w = omega (arith, s .pre) in
-    let stop = c .before .before .cut .ensures in (
-      omega (arith, s .pre),
-      (
-        s .pre .1 .0,
-        (
-          (stop ∙ ap (min (a .s .0 + 64)) end, c .before .before .before .before .next-mark .ensures),
-          stand-less t w (a .s .0) (a .s .0 + 64) (c .before .before .cut .result .0) (c .before .scan .result) (omega (arith, stop)) (c .before .scan .ensures),
-        ),
-      ),
-    )
+    let seen = c .before .look .ensures .seen w refl (ready .tables) (zero .move w refl (ready .tables)) (one .move w refl (ready .tables)) in
+    (omega (arith, ready .pattern .some-bits, ready .pattern .few-bits, ready .few-bits), (s .pre .1 .0, seen))
 
 same-length : tie.Need-same-length
 same-length c = search needs
@@ -65,12 +43,7 @@ step-spec =
     (tie.spec
     move-of-requires
     move-of-requires-2
-    next-mark-requires
-    add-cut
-    sub-cut
-    add-cut-2
-    cut-requires
-    scan-requires
+    look-requires
     settle-requires
     same-length
     returns)
