@@ -21,17 +21,16 @@ use Rattle.rules.specs.declared.Method.the-variants.{Wide}
 use Rattle.rules.specs.Ranges.{keep}
 use Rattle.rules.specs.Pattern.{Pattern}
 use Rattle.rules.specs.Occurrence.{places, matches, occurs, occurrences}
-use Rattle.rules.specs.Wide.{window, wideFinds}
+use Rattle.rules.specs.Wide.{wideFinds}
 use Rattle.rules.specs.Step.{finds, next}
 use Rattle.matcher.specs.Tables.{passes, WideTables}
 use Rattle.matcher.specs.Progress.{textOf, Writing, Stepped}
-use Rattle.wide.specs.Flags.{Stand, Keeps, Leaves, Seen, Looked, stop}
+use Rattle.wide.specs.Flags.{Stand, Keeps, Leaves, Flagged, Scanned, stop}
 use Rattle.rules.proofs.Ranges.{and-left, and-right, not-true-false, among-same}
 use Rattle.rules.proofs.Occurrence.{matches-at, occurs-inside, none-from-places, occurrences-none, occurrences-append, occurrences-one, occurrences-further, occurrences-to}
 use Rattle.rules.proofs.Wide.{flagged-occurs}
 use Rattle.matcher.proofs.Writing.{writing-none, writing-more, stepped-whole, stepped-full}
 use Rattle.wide.proofs.WideTables.{bitFor, weight-zero, weight-ones, trailing-below, trailing-lt, passes-to}
-use Rattle.wide.proofs.WideMoves.{next-end, next-chosen}
 
 -- One window bit after the other
 
@@ -128,23 +127,21 @@ module _ (t : Packed) (m : ℕ) (cells : List ℕ) (s f : ℕ) where
   unfolding Leaves
   leaves-keep g r q h k l w e tables st = stand-keep t w cells s q g r tables (omega arith) k (h w e tables st)
 
--- What a step sees
+-- What a scan gives
 
-module _ (bytes : List ℕ) (n m : ℕ) (cells : List ℕ) (zero one s : ℕ) where
+module _ (bytes : List ℕ) (n m : ℕ) (cells : List ℕ) (s : ℕ) where
   abbrev t : Packed
   t = textOf bytes n
 
   -- the last step: its places are those below E
-  pub looked-end : s + m ≤ n → n ≤ s + 63 + m → Looked t m cells zero one s (n - m + 1) (18446744073709551615 / 2 ^ (s + 63 + m - n))
+  pub scanned-end : s + m ≤ n → n ≤ s + 63 + m → Scanned t m cells s (18446744073709551615 / 2 ^ (s + 63 + m - n))
   unfolding Stand
-  looked-end low up =
+  scanned-end low up =
       record {
-        seen = λ w e tables mz mo.
-            let end : n - m + 1 ≡ places t w = omega arith in
-            let size : min (s + 64) (places t w) - s ≡ 64 - (s + 63 + m - n) = omega arith in
+        flagged = λ w e tables.
+            let size : stop t w s - s ≡ 64 - (s + 63 + m - n) = omega arith in
             record {
-              mark = end ∙ sym (next-end t w s (omega arith));
-              stand = stand-left w (s + 63 + m - n) (min (s + 64) (places t w)) (omega arith);
+              stand = stand-left w (s + 63 + m - n) (stop t w s) (omega arith);
               inside = rw size (shr-lt (64 - (s + 63 + m - n)) (s + 63 + m - n) (all (s + 63 + m - n) (omega arith)));
             };
       }
@@ -156,21 +153,14 @@ module _ (bytes : List ℕ) (n m : ℕ) (cells : List ℕ) (zero one s : ℕ) wh
       stand-left w k b h p l u e = weight-shr 18446744073709551615 k (p - s) ∙ weight-ones 64 (k + (p - s)) (omega arith)
 
   -- the window lies whole in the text: all 64 places lie below E
-  pub looked-on : (c to f : ℕ) → s + 63 + m < n → c ≡ bitAt bytes (s + 63 + m) → to ≡ min (s + ((1 - c) * zero + c * one)) (n - m + 1)
-      → f < 2 ^ 64 → Leaves (textOf bytes 0) m cells s 18446744073709551615 f → Looked t m cells zero one s to f
+  pub scanned-whole : (f : ℕ) → s + 63 + m < n → f < 2 ^ 64 → Leaves (textOf bytes 0) m cells s 18446744073709551615 f → Scanned t m cells s f
   unfolding Leaves
-  looked-on c to f inside e there fits leaves =
+  scanned-whole f inside fits leaves =
       record {
-        seen = λ w same tables mz mo.
-            let end : n - m + 1 ≡ places t w = omega arith in
-            let after : s + 63 + m ≡ s + window w = omega arith in
-            let stop : min (s + 64) (places t w) ≡ s + 64 = omega arith in
-            let size : min (s + 64) (places t w) - s ≡ 64 = omega arith in
-            record {
-              mark = there ∙ ap (min (s + ((1 - c) * zero + c * one))) end ∙ next-chosen t w s c zero one (omega arith) (e ∙ ap (bitAt bytes) after) mz mo;
-              stand = rw stop (leaves w same tables (stand-all (textOf bytes 0) w s));
-              inside = rw size fits;
-            };
+        flagged = λ w e tables.
+            let last : stop t w s ≡ s + 64 = omega arith in
+            let size : stop t w s - s ≡ 64 = omega arith in
+            record { stand = rw last (leaves w e tables (stand-all (textOf bytes 0) w s)); inside = rw size fits };
       }
 
 -- What a step finds
@@ -240,8 +230,8 @@ pub record Settling (t : Packed) (w : Pattern) (s : ℕ) (before : List ℕ) (ha
   pub writing : Writing before had (occurrences t w s at) list hits
 
 module _ (t : Packed) (w : Pattern) (s : ℕ) (before : List ℕ) (had : ℕ) (there : s < places t w) where
-  pub settling-none : (to f : ℕ) → Seen t w s to f → had ≤ length before → Settling t w s before had before s f had
-  settling-none to f v h =
+  pub settling-none : (f : ℕ) → Flagged t w s f → had ≤ length before → Settling t w s before had before s f had
+  settling-none f v h =
       record {
         from = omega arith;
         upto = omega arith;

@@ -21,7 +21,8 @@ use Rattle.rules.specs.Occurrence.{places}
 use Rattle.rules.specs.Wide.{window, lastIndex, beyond, wideNext}
 use Rattle.rules.specs.Step.{ahead, next}
 use Rattle.matcher.specs.Tables.{WideTables}
-use Rattle.wide.specs.Flags.{Move}
+use Rattle.matcher.specs.Progress.{textOf}
+use Rattle.wide.specs.Flags.{Move, Marked}
 use Rattle.rules.proofs.Ranges.{and-left, and-right, Greatest, IsGreatest, greatest-is}
 use Rattle.wide.proofs.WideTables.{bitFor, bit-or-bit, bit-lit, bit-unlit, trailing-below, trailing-at, passes-in}
 
@@ -167,17 +168,25 @@ chosen-move w c x y l mx my = ⊎-elim (λ e. rw (zero e) (rw e mx)) (λ e. rw (
 
 -- The next mark
 
-module _ (t : Packed) (w : Pattern) (s : ℕ) where
+module _ (bytes : List ℕ) (n m zero one s : ℕ) where
+  abbrev t : Packed
+  t = textOf bytes n
+
   -- the window reaches the end of the text
-  pub next-end : t .count ≤ s + window w → next Wide t w s ≡ places t w
+  pub marked-end : s + m ≤ n → n ≤ s + 63 + m → Marked t m zero one s (n - m + 1)
   unfolding next ahead wideNext
-  next-end h = rw (le-leb _ _ h) (omega arith)
+  marked-end low h = record { mark = λ w e mz mo. rw (le-leb (t .count) (s + window w) (omega arith)) (omega arith) }
 
   -- the bit after the window tells
-  next-move : (c r : ℕ) → s + window w < t .count → bitAt (t .bytes) (s + window w) ≡ c → Move w c r → next Wide t w s ≡ min (s + r) (places t w)
+  pub marked : (c r : ℕ) → s + 63 + m < n → c ≡ bitAt bytes (s + 63 + m) → r ≡ min (s + ((1 - c) * zero + c * one)) (n - m + 1) → Marked t m zero one s r
   unfolding next ahead wideNext
-  next-move c r h e m = rw (lt-leb _ _ h, e, m .ahead s)
-
-  pub next-chosen : (c x y : ℕ) → s + window w < t .count → c ≡ bitAt (t .bytes) (s + window w) → Move w 0 x → Move w 1 y
-      → min (s + ((1 - c) * x + c * y)) (places t w) ≡ next Wide t w s
-  next-chosen c x y h e mx my = sym (next-move c _ h (sym e) (chosen-move w c x y (rw e (bit-lt (t .bytes) (s + window w))) mx my))
+  marked c r h e f =
+      record {
+        mark = λ w same mz mo.
+            let end : n - m + 1 ≡ places t w = omega arith in
+            let after : s + 63 + m ≡ s + window w = omega arith in
+            let bit : bitAt bytes (s + window w) ≡ c = sym (e ∙ ap (bitAt bytes) after) in
+            f
+            ∙ ap (min (s + ((1 - c) * zero + c * one))) end
+            ∙ sym (rw (lt-leb (t .count) (s + window w) (omega arith), bit, chosen-move w c zero one (rw e (bit-lt bytes (s + 63 + m))) mz mo .ahead s));
+      }

@@ -56,16 +56,19 @@ pub record Moves (m : ℕ) (cells : List ℕ) (c r : ℕ) : Type 0 where
   pub move : (w : Pattern) → w .count ≡ m → WideTables w cells → Move w c r
   pub short : r ≤ 64 + m
 
--- the first place that a step at s no longer decides by flags: 64 places on, or E
+-- the first place that the flags of a step at s do not decide: 64 places on, or E
 abbrev pub stop : Packed → Pattern → ℕ → ℕ
 stop t w s = min (s + 64) (places t w)
 
--- What a step at s sees: the next mark, the flag of each place at which the pattern stands, and none of a place from E on.
-pub record Seen (t : Packed) (w : Pattern) (s to flags : ℕ) : Type 0 where
-  pub mark : to ≡ next Wide t w s
-  pub stand : Stand (textOf (t .bytes) 0) w s (stop t w s) flags
-  pub inside : flags < 2 ^ (stop t w s - s)
+-- f has the flag of each place from s on at which the pattern stands, and none of a place that the step does not decide.
+pub record Flagged (t : Packed) (w : Pattern) (s f : ℕ) : Type 0 where
+  pub stand : Stand (textOf (t .bytes) 0) w s (stop t w s) f
+  pub inside : f < 2 ^ (stop t w s - s)
 
--- It is that for each pattern of m bits whose table and moves these are.
-pub record Looked (t : Packed) (m : ℕ) (cells : List ℕ) (zero one s to flags : ℕ) : Type 0 where
-  pub seen : (w : Pattern) → w .count ≡ m → WideTables w cells → Move w 0 zero → Move w 1 one → Seen t w s to flags
+-- It has them for each pattern of m bits whose table this is.
+pub record Scanned (t : Packed) (m : ℕ) (cells : List ℕ) (s f : ℕ) : Type 0 where
+  pub flagged : (w : Pattern) → w .count ≡ m → WideTables w cells → Flagged t w s f
+
+-- The next mark of a step at s is r, for each pattern of m bits whose moves these are.
+pub record Marked (t : Packed) (m zero one s r : ℕ) : Type 0 where
+  pub mark : (w : Pattern) → w .count ≡ m → Move w 0 zero → Move w 1 one → r ≡ next Wide t w s

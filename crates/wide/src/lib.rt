@@ -13,8 +13,9 @@ ghost use Prim.Native.Nat.{_+_, _*_, _%_, _^_, _≤_, _<_};
 ghost use lib.ListN.{length};
 ghost use Rattle.bits.specs.Packed.{bytesFor, bitsAt};
 ghost use Rattle.rules.specs.Occurrence.{places};
+ghost use Rattle.rules.specs.Step.{next};
 ghost use Rattle.matcher.specs.Tables.{cellsFor, Prepared};
-ghost use Rattle.wide.specs.Flags.{Enters, Entered, Moves, Keeps, Leaves, Seen, Looked};
+ghost use Rattle.wide.specs.Flags.{Enters, Entered, Moves, Keeps, Leaves, Flagged, Scanned, Marked};
 ghost use Rattle.matcher.specs.Progress.{textOf, patternOf, HeadOf, GoodPattern, Ready, Stepped, Advanced};
 
 // Every flag stands.
@@ -138,14 +139,20 @@ fn pass(text: &[u8], m: u32, cells: &[u64], s: Place, from: u32, flags: u64) -> 
     f
 }
 
-// Flags for the 64 places from s on, whose window lies whole in the text. Where at most one flag stands, further window
-// bits would cost more than a comparison. In a pattern below 64 bits no window bit speaks for all flags: every second
-// byte, and then the others. In a longer one those from 56 on speak for nearly all.
-fn scan(text: &[u8], m: u32, cells: &[u64], s: Place) -> u64
+// Flags for the 64 places from s on. Where at most one flag stands, further window bits would cost more than a comparison.
+// In a pattern below 64 bits no window bit speaks for all flags: every second byte, and then the others. In a longer
+// one those from 56 on speak for nearly all. The window is looked at only where it lies whole in the text, so that no load
+// needs a test for its end. In the last step, where it does not, the flags of all places that are left stand.
+fn scan(text: &[u8], n: u32, m: u32, cells: &[u64], s: Place) -> u64
     requires { ⌜ (m ≤ 2048) × (2 * (63 + m) ≤ length (now cells)) ⌝ }
-    requires { ⌜ (s .0 + 63 + m ≤ 2 ^ 30) × (s .0 + 63 + m ≤ length (now text) * 8) ⌝ }
-    ensures { λ r. ⌜ Leaves (textOf (now (text .entry)) 0) m (now (cells .entry)) (s .0) 18446744073709551615 r ⌝ }
+    requires { ⌜ (n ≤ 2 ^ 30) × (n ≤ length (now text) * 8) × (s .0 + m ≤ n) ⌝ }
+    ensures { λ r. ⌜ Scanned (textOf (now (text .entry)) n) m (now (cells .entry)) (s .0) r ⌝ }
 {
+    let at = s.0;
+    let after = at + 63 + m;
+    if n <= after {
+        return ALL >> (after - n);
+    }
     if m < 64 {
         let half = pass(text, m, cells, s, 0, ALL);
         if u64::count_ones(half) < 2 {
@@ -166,40 +173,25 @@ fn scan(text: &[u8], m: u32, cells: &[u64], s: Place) -> u64
     f
 }
 
-// What a step sees: the mark after it, and flags for its places.
-struct View {
-    next: Place,
-    flags: u64,
-}
-
-// Looks at the 64 places from s on. The window's bytes are looked at only where it lies whole in the text, so no load needs
-// a test for its end. In the last step, where it does not, the flags of all places that are left stand. Else the
-// bit after the window tells the next mark, by a product and no branch: a processor cannot predict the bits of a text.
-fn look(text: &[u8], n: u32, m: u32, cells: &[u64], zero: u32, one: u32, s: Place) -> View
-    requires { ⌜ (m ≤ 2048) × (2 * (63 + m) ≤ length (now cells)) × (zero ≤ 64 + m) × (one ≤ 64 + m) ⌝ }
-    requires { ⌜ (m ≤ n) × (n ≤ 2 ^ 30) × (n ≤ length (now text) * 8) × (s .0 + m ≤ n) ⌝ }
-    ensures { λ r. ⌜ Looked (textOf (now (text .entry)) n) m (now (cells .entry)) zero one (s .0) (r .next .0) (r .flags) ⌝ }
+// The mark after the step at s: E in the last step, else by the bit after the window. That is a product and no branch: a
+// processor cannot predict the bits of a text.
+fn next_mark(text: &[u8], n: u32, m: u32, zero: u32, one: u32, s: Place) -> Place
+    requires { ⌜ (m ≤ 2048) × (zero ≤ 64 + m) × (one ≤ 64 + m) ⌝ }
+    requires { ⌜ (n ≤ 2 ^ 30) × (s .0 + m ≤ n) ⌝ }
+    ensures { λ r. ⌜ Marked (textOf (now (text .entry)) n) m zero one (s .0) (r .0) ⌝ }
 {
     let at = s.0;
     let end = n - m + 1;
     let after = at + 63 + m;
-    if n <= after {
-        return View {
-            next: Place(end),
-            flags: ALL >> (after - n),
-        };
-    }
-    let c = bit::bit(text, Place(after)) as u32;
-    let ahead = at + ((1 - c) * zero + c * one);
     let mut next = end;
-    if ahead < end {
-        next = ahead;
+    if after < n {
+        let c = bit::bit(text, Place(after)) as u32;
+        let ahead = at + ((1 - c) * zero + c * one);
+        if ahead < end {
+            next = ahead;
+        }
     }
-    let flags = scan(text, m, cells, s);
-    View {
-        next: Place(next),
-        flags: flags,
-    }
+    Place(next)
 }
 
 // Takes the flags lowest first, and writes the places at which the pattern stands.
@@ -210,14 +202,15 @@ fn settle(
     m: u32,
     h: Head,
     s: Place,
-    next: Place,
+    to: Place,
     flags: u64,
     list: &mut [u32],
     had: usize,
 ) -> Found
     requires { ⌜ (0 < m) × (m ≤ 2048) × (n ≤ 2 ^ 30) × (s .0 < places (textOf (now text) n) (patternOf (now word) m)) × (had ≤ length (now list)) ⌝ }
     requires { ⌜ HeadOf (patternOf (now word) m) (h .bits) (h .cut) ⌝ }
-    requires { ⌜ Seen (textOf (now text) n) (patternOf (now word) m) (s .0) (next .0) flags ⌝ }
+    requires { ⌜ Flagged (textOf (now text) n) (patternOf (now word) m) (s .0) flags ⌝ }
+    requires { ⌜ to .0 ≡ next Method.Wide (textOf (now text) n) (patternOf (now word) m) (s .0) ⌝ }
     ensures { λ r. ⌜ Stepped Method.Wide (textOf (now (text .entry)) n) (patternOf (now (word .entry)) m) (s .0) (now (list .entry)) had (r .at .0) (r .hits) (r .full) (now (list .exit)) ⌝ }
 {
     let mut at = s.0;
@@ -241,7 +234,7 @@ fn settle(
         }
     }
     Found {
-        at: next,
+        at: to,
         hits: hits,
         full: false,
     }
@@ -266,8 +259,9 @@ pub fn step(
 {
     let zero = move_of(m, cells, 0);
     let one = move_of(m, cells, 1);
-    let view = look(text, n, m, cells, zero, one, s);
-    settle(text, n, word, m, h, s, view.next, view.flags, list, had)
+    let to = next_mark(text, n, m, zero, one, s);
+    let flags = scan(text, n, m, cells, s);
+    settle(text, n, word, m, h, s, to, flags, list, had)
 }
 
 // Many steps with their list, until the budget is used up, a hit finds no free cell, or no place is left. Both moves are
@@ -297,8 +291,9 @@ pub fn advance(
     let mut hits = had;
     let mut full = false;
     while !full & (at.0 < end) & (steps < budget) {
-        let view = look(text, n, m, cells, zero, one, at);
-        let found = settle(text, n, word, m, h, at, view.next, view.flags, list, hits);
+        let to = next_mark(text, n, m, zero, one, at);
+        let flags = scan(text, n, m, cells, at);
+        let found = settle(text, n, word, m, h, at, to, flags, list, hits);
         at = found.at;
         hits = found.hits;
         full = found.full;

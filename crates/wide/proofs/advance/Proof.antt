@@ -66,35 +66,41 @@ loop-holds c =
     let a = s .args in
     advanced-none Wide (textOf (now (a .text)) (a .n)) (patternOf (now (a .word)) (a .m)) (a .s .0) (a .budget) (now (a .list)) (a .had) (s .pre .1 .1 .1) (s .pre .1 .1 .0)
 
-look-requires : tie.Need-look-requires Inv-loop μ-loop
-look-requires c κs =
+next-mark-requires : tie.Need-next-mark-requires Inv-loop μ-loop
+next-mark-requires c κs =
     let ready = c .before .before .before .before .before .before .before .before .before .pre .0 in
-    omega (arith, tested c, ready .pattern .few-bits, ready .room, ready .inside, ready .few-bits, ready .bytes-there, c .before .before .before .before .move-of .ensures .short, c .before .before .before .move-of2 .ensures .short)
+    omega (arith, tested c, ready .pattern .few-bits, ready .inside, ready .few-bits, c .before .before .before .before .move-of .ensures .short, c .before .before .before .move-of2 .ensures .short)
+
+scan-requires : tie.Need-scan-requires Inv-loop μ-loop
+scan-requires c κs =
+    let ready = c .before .before .before .before .before .before .before .before .before .before .pre .0 in
+    omega (arith, tested (c .before), ready .pattern .few-bits, ready .room, ready .inside, ready .few-bits, ready .bytes-there)
 
 settle-requires : tie.Need-settle-requires Inv-loop μ-loop
 settle-requires c κs =
-    let s = c .before .before .before .before .before .before .before .before .before .before .before in
+    let s = c .before .before .before .before .before .before .before .before .before .before .before .before in
     let ready = s .pre .0 in
     let a = s .args in
-    let zero = c .before .before .before .before .before .before .move-of .ensures in
-    let one = c .before .before .before .before .before .move-of2 .ensures in
+    let l = c .before .before .before .before .before .loop in
     let w = patternOf (now (a .word)) (a .m) in
-    let l = c .before .before .before .before .loop in
-    let seen = c .before .look .ensures .seen w refl (ready .tables) (zero .move w refl (ready .tables)) (one .move w refl (ready .tables)) in
-    (omega (arith, tested (c .before .before), ready .pattern .some-bits, ready .pattern .few-bits, ready .few-bits, ready .inside, long (c .before .before .before .before), l .inv .writing .fits), (s .pre .1 .0, seen))
+    let zero = c .before .before .before .before .before .before .before .move-of .ensures .move w refl (ready .tables) in
+    let one = c .before .before .before .before .before .before .move-of2 .ensures .move w refl (ready .tables) in (
+      omega (arith, tested (c .before .before .before), ready .pattern .some-bits, ready .pattern .few-bits, ready .few-bits, ready .inside, long (c .before .before .before .before .before), l .inv .writing .fits),
+      (s .pre .1 .0, (c .before .scan .ensures .flagged w refl (ready .tables), c .before .before .next-mark .ensures .mark w refl zero one)),
+    )
 
 add-steps : tie.Need-add-steps Inv-loop μ-loop
-add-steps c = omega (arith, tested (c .before .before .before .before .before .before), c .before .before .before .before .before .before .before .before .before .before .before .before .before .before .before .fits .budget)
+add-steps c = omega (arith, tested (c .before .before .before .before .before .before .before), c .before .before .before .before .before .before .before .before .before .before .before .before .before .before .before .before .fits .budget)
 
 loop-less : tie.Need-loop-less Inv-loop μ-loop
-loop-less c = omega (arith, tested (c .before .before .before .before .before .before))
+loop-less c = omega (arith, tested (c .before .before .before .before .before .before .before))
 
 loop-again : tie.Need-loop-again Inv-loop μ-loop
 loop-again c =
-    let s = c .before .before .before .before .before .before .before .before .before .before .before .before .before .before .before in
+    let s = c .before .before .before .before .before .before .before .before .before .before .before .before .before .before .before .before in
     let a = s .args in
-    let l = c .before .before .before .before .before .before .before .before .loop in
-    let test = tested (c .before .before .before .before .before .before) in
+    let l = c .before .before .before .before .before .before .before .before .before .loop in
+    let test = tested (c .before .before .before .before .before .before .before) in
     let settled = c .before .before .before .settle in
     advanced-step Wide (textOf (now (a .text)) (a .n)) (patternOf (now (a .word)) (a .m)) (a .s .0) (a .budget) (now (a .list)) (a .had) (l .at .0) (l .steps) (l .hits) (l .list) (s .pre .1 .1 .1)
     (rw (test .0) at (l .inv)) (settled .result .at .0) (settled .result .hits) (settled .result .full) (settled .last .1 .1 .1 .1 .1 .1 .1 .1 .0) (omega (arith, s .pre .0 .inside)) (test .2) (settled .ensures)
@@ -116,7 +122,8 @@ advance-spec =
     move-of-requires
     move-of-requires-2
     loop-holds
-    look-requires
+    next-mark-requires
+    scan-requires
     settle-requires
     add-steps
     loop-less

@@ -16,10 +16,10 @@ use Rattle.wide.proofs.settle.Statement.{statement}
 use Rattle.wide.proofs.settle.Tie as tie
 
 abbrev Inv-loop : tie.InvT-loop
-Inv-loop text n word m h next flags list₀ had at₀ f₀ hits₀ list at f hits = Settling (textOf text n) (patternOf word m) at₀ list₀ had list at f hits
+Inv-loop text n word m h to flags list₀ had at₀ f₀ hits₀ list at f hits = Settling (textOf text n) (patternOf word m) at₀ list₀ had list at f hits
 
 abbrev μ-loop : tie.MeasureT-loop
-μ-loop text n word m h next flags list₀ had at₀ f₀ hits₀ list at f hits = stop (textOf text n) (patternOf word m) at₀ - at
+μ-loop text n word m h to flags list₀ had at₀ f₀ hits₀ list at f hits = stop (textOf text n) (patternOf word m) at₀ - at
 
 -- the lowest flag is that of a place before the step's last one
 low : (c : tie.In-loop Inv-loop μ-loop)
@@ -41,7 +41,7 @@ loop-holds : tie.Need-loop-holds Inv-loop μ-loop
 loop-holds c =
     let s = c .before .before .before in
     let a = s .args in
-    settling-none (textOf (now (a .text)) (a .n)) (patternOf (now (a .word)) (a .m)) (a .s .0) (now (a .list)) (a .had) (omega arith) (a .next .0) (a .flags) (s .pre .1 .1) (omega arith)
+    settling-none (textOf (now (a .text)) (a .n)) (patternOf (now (a .word)) (a .m)) (a .s .0) (now (a .list)) (a .had) (omega arith) (a .flags) (s .pre .1 .1 .0) (omega arith)
 
 add-p : tie.Need-add-p Inv-loop μ-loop
 add-p c = omega (arith, trailing-le 64 (c .before .loop .f))
@@ -103,8 +103,8 @@ returns-2 : tie.Need-returns-2 Inv-loop μ-loop
 returns-2 c =
     let a = c .before .before .before .before .before .args in
     let l = c .before .loop in
-    settled (textOf (now (a .text)) (a .n)) (patternOf (now (a .word)) (a .m)) (a .s .0) (now (a .list)) (a .had) (omega arith) (a .next .0) (l .list) (l .at) (l .f) (l .hits) (l .inv) (c .loop-test .left)
-    (c .before .before .before .before .before .pre .1 .1 .mark)
+    settled (textOf (now (a .text)) (a .n)) (patternOf (now (a .word)) (a .m)) (a .s .0) (now (a .list)) (a .had) (omega arith) (a .to .0) (l .list) (l .at) (l .f) (l .hits) (l .inv) (c .loop-test .left)
+    (c .before .before .before .before .before .pre .1 .1 .1)
 
 pub settle-spec : {M : Type 1} → statement M
 settle-spec =

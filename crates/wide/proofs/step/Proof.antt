@@ -1,4 +1,4 @@
--- `wide::step` meets its contract: what it sees, settled.
+-- `wide::step` meets its contract: the flags of its places, settled.
 -- Assumes nothing.
 use borrow.Author.Needs.{needs}
 use mathlib.Core.Path.{refl}
@@ -14,22 +14,27 @@ move-of-requires c κs = search needs
 move-of-requires-2 : tie.Need-move-of-requires-2
 move-of-requires-2 c κs = search needs
 
-look-requires : tie.Need-look-requires
-look-requires c κs =
-    let s = c .before .before .before .before .before .before in
-    let ready = s .pre .0 in
-    omega (arith, ready .pattern .few-bits, ready .room, ready .inside, ready .few-bits, ready .bytes-there, c .before .move-of .ensures .short, c .move-of2 .ensures .short)
+next-mark-requires : tie.Need-next-mark-requires
+next-mark-requires c κs =
+    let ready = c .before .before .before .before .before .before .pre .0 in
+    omega (arith, ready .pattern .few-bits, ready .inside, ready .few-bits, c .before .move-of .ensures .short, c .move-of2 .ensures .short)
+
+scan-requires : tie.Need-scan-requires
+scan-requires c κs =
+    let ready = c .before .before .before .before .before .before .before .pre .0 in
+    omega (arith, ready .pattern .few-bits, ready .room, ready .inside, ready .few-bits, ready .bytes-there)
 
 settle-requires : tie.Need-settle-requires
 settle-requires c κs =
-    let s = c .before .before .before .before .before .before .before .before in
+    let s = c .before .before .before .before .before .before .before .before .before in
     let ready = s .pre .0 in
     let a = s .args in
-    let zero = c .before .before .before .move-of .ensures in
-    let one = c .before .before .move-of2 .ensures in
     let w = patternOf (now (a .word)) (a .m) in
-    let seen = c .before .look .ensures .seen w refl (ready .tables) (zero .move w refl (ready .tables)) (one .move w refl (ready .tables)) in
-    (omega (arith, ready .pattern .some-bits, ready .pattern .few-bits, ready .few-bits), (s .pre .1 .0, seen))
+    let zero = c .before .before .before .before .move-of .ensures .move w refl (ready .tables) in
+    let one = c .before .before .before .move-of2 .ensures .move w refl (ready .tables) in (
+      omega (arith, ready .pattern .some-bits, ready .pattern .few-bits, ready .few-bits),
+      (s .pre .1 .0, (c .before .scan .ensures .flagged w refl (ready .tables), c .before .before .next-mark .ensures .mark w refl zero one)),
+    )
 
 same-length : tie.Need-same-length
 same-length c = search needs
@@ -43,7 +48,8 @@ step-spec =
     (tie.spec
     move-of-requires
     move-of-requires-2
-    look-requires
+    next-mark-requires
+    scan-requires
     settle-requires
     same-length
     returns)
