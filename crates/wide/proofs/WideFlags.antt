@@ -134,23 +134,20 @@ module _ (bytes : List ℕ) (n m : ℕ) (cells : List ℕ) (s : ℕ) where
   t = textOf bytes n
 
   -- the last step: its places are those below E
-  pub scanned-end : s + m ≤ n → n ≤ s + 63 + m → Scanned t m cells s (18446744073709551615 / 2 ^ (s + 63 + m - n))
+  pub scanned-end : (k : ℕ) → s + m ≤ n → s + 63 + m ≡ n + k → Scanned t m cells s (18446744073709551615 / 2 ^ k)
   unfolding Stand
-  scanned-end low up =
+  scanned-end k low e =
       record {
-        flagged = λ w e tables.
-            let size : stop t w s - s ≡ 64 - (s + 63 + m - n) = omega arith in
+        flagged = λ w same tables.
+            let size : stop t w s - s ≡ 64 - k = omega arith in
             record {
-              stand = stand-left w (s + 63 + m - n) (stop t w s) (omega arith);
-              inside = rw size (shr-lt (64 - (s + 63 + m - n)) (s + 63 + m - n) (all (s + 63 + m - n) (omega arith)));
+              stand = λ p l u h. weight-shr 18446744073709551615 k (p - s) ∙ weight-ones 64 (k + (p - s)) (omega arith);
+              inside = rw size (shr-lt (64 - k) k (all (omega arith)));
             };
       }
     where
-      all : (k : ℕ) → k ≤ 64 → 18446744073709551615 < 2 ^ (64 - k + k)
-      all k h = let size : 64 - k + k ≡ 64 = omega arith in rw size (omega arith)
-
-      stand-left : (w : Pattern) (k b : ℕ) → b + k ≤ s + 64 → Stand (textOf bytes 0) w s b (18446744073709551615 / 2 ^ k)
-      stand-left w k b h p l u e = weight-shr 18446744073709551615 k (p - s) ∙ weight-ones 64 (k + (p - s)) (omega arith)
+      all : k ≤ 64 → 18446744073709551615 < 2 ^ (64 - k + k)
+      all h = let whole : 64 - k + k ≡ 64 = omega arith in rw whole (omega arith)
 
   -- the window lies whole in the text: all 64 places lie below E
   pub scanned-whole : (f : ℕ) → s + 63 + m < n → f < 2 ^ 64 → Leaves (textOf bytes 0) m cells s 18446744073709551615 f → Scanned t m cells s f
@@ -275,30 +272,29 @@ module _ (t : Packed) (w : Pattern) (s : ℕ) (before : List ℕ) (had : ℕ) (t
     unfolding p
     on list' hits' u = record { from = omega (arith, g .from); upto = omega (arith, lowest); flags = fewer; stand = others; writing = u }
 
-    -- the pattern does not stand there
-    pub settling-miss : matches (textOf (t .bytes) 0) w (at + trailingZeros 64 f) ≡ false
-        → Settling t w s before had list (at + trailingZeros 64 f + 1) (f / 2 ^ trailingZeros 64 f / 2 ^ 1) hits
-    unfolding p
-    settling-miss e =
-        let gone : occurrences t w s at ≡ occurrences t w s (p + 1)
-        = passed-none t w s at (p + 1) (g .from) (omega arith) (none-join (textOf (t .bytes) 0) w at p (p + 1) none (none-one (textOf (t .bytes) 0) w p e)) in
-        on list hits (rw gone at (g .writing))
+    module _ (b : Bool) (same : b ≡ matches (textOf (t .bytes) 0) w (at + trailingZeros 64 f)) where
+      -- the pattern does not stand there
+      pub settling-miss : b ≡ false → Settling t w s before had list (at + trailingZeros 64 f + 1) (f / 2 ^ trailingZeros 64 f / 2 ^ 1) hits
+      unfolding p
+      settling-miss e =
+          let gone : occurrences t w s at ≡ occurrences t w s (p + 1)
+          = passed-none t w s at (p + 1) (g .from) (omega arith) (none-join (textOf (t .bytes) 0) w at p (p + 1) none (none-one (textOf (t .bytes) 0) w p (sym same ∙ e))) in
+          on list hits (rw gone at (g .writing))
 
-    module _ (hit : matches (textOf (t .bytes) 0) w (at + trailingZeros 64 f) ≡ true) where
       -- it does, and there is a cell
-      pub settling-hit : hits < length before
+      pub settling-hit : b ≡ true → hits < length before
           → Settling t w s before had (set list hits (at + trailingZeros 64 f)) (at + trailingZeros 64 f + 1) (f / 2 ^ trailingZeros 64 f / 2 ^ 1) (hits + 1)
       unfolding p
-      settling-hit h =
+      settling-hit e h =
           on (set list hits p) (hits + 1)
-          (rw (passed-hit t w s at p (g .from) (omega arith) none (omega (arith, lowest)) hit) (writing-more before had (occurrences t w s at) list hits p (g .writing) h))
+          (rw (passed-hit t w s at p (g .from) (omega arith) none (omega (arith, lowest)) (sym same ∙ e)) (writing-more before had (occurrences t w s at) list hits p (g .writing) h))
 
       -- it does, and there is none
-      pub settling-full : length before ≤ hits → Stepped Wide t w s before had (at + trailingZeros 64 f) hits true list
+      pub settling-full : b ≡ true → length before ≤ hits → Stepped Wide t w s before had (at + trailingZeros 64 f) hits true list
       unfolding p
-      settling-full h =
+      settling-full e h =
           let full : hits ≡ length before = omega (arith, g .writing .fits) in
           rw full
           (stepped-full Wide t w s before had (occurrences t w s at) (occurrences t w (p + 1) (stop t w s)) list p (omega (arith, g .writing .count))
-          (passed-rest t w s at p (g .from) (omega arith) none (omega (arith, lowest)) hit lowest)
+          (passed-rest t w s at p (g .from) (omega arith) none (omega (arith, lowest)) (sym same ∙ e) lowest)
           (rw full at (g .writing)))

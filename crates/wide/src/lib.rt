@@ -112,8 +112,8 @@ fn keep8(text: &[u8], cells: &[u64], s: Place, q: u32, flags: u64) -> u64
     ensures { λ r. ⌜ Keeps (now (cells .entry)) q (bitsAt (now (text .entry)) (s .0 + q) 8) flags r ⌝ }
 {
     let at = s.0;
-    let x = load::byte_inside(text, Place(at + q));
     let from = q as usize;
+    let x = load::byte_inside(text, Place(at + q));
     let mut f = flags;
     let mut j = 0usize;
     while j < 8 {
@@ -149,9 +149,9 @@ fn scan(text: &[u8], n: u32, m: u32, cells: &[u64], s: Place) -> u64
     ensures { λ r. ⌜ Scanned (textOf (now (text .entry)) n) m (now (cells .entry)) (s .0) r ⌝ }
 {
     let at = s.0;
-    let after = at + 63 + m;
-    if n <= after {
-        return ALL >> (after - n);
+    let until = at + 63 + m;
+    if n <= until {
+        return ALL >> (until - n);
     }
     if m < 64 {
         let half = pass(text, m, cells, s, 0, ALL);
@@ -290,7 +290,7 @@ pub fn advance(
     let mut steps = 0u32;
     let mut hits = had;
     let mut full = false;
-    while !full & (at.0 < end) & (steps < budget) {
+    while (at.0 < end) & (steps < budget) & !full {
         let to = next_mark(text, n, m, zero, one, at);
         let flags = scan(text, n, m, cells, at);
         let found = settle(text, n, word, m, h, at, to, flags, list, hits);

@@ -25,12 +25,12 @@ abbrev μ-loop : tie.MeasureT-loop
 μ-loop text n word m h cells budget list₀ had end zero one at₀ steps₀ hits₀ full₀ list at steps hits full = budget - steps
 
 -- the loop's test
-goes : (full : Bool) (at end steps budget : ℕ) → ((not full && ltb at end) && ltb steps budget) ≡ true → (full ≡ false) × (at < end) × (steps < budget)
+goes : (full : Bool) (at end steps budget : ℕ) → ((ltb at end && ltb steps budget) && not full) ≡ true → (full ≡ false) × (at < end) × (steps < budget)
 goes full at end steps budget e =
-    let both = and-left (not full && ltb at end) (ltb steps budget) e in (
-      not-true full (and-left (not full) (ltb at end) both),
-      ltb-true at end (and-right (not full) (ltb at end) both),
-      ltb-true steps budget (and-right (not full && ltb at end) (ltb steps budget) e),
+    let both = and-left (ltb at end && ltb steps budget) (not full) e in (
+      not-true full (and-right (ltb at end && ltb steps budget) (not full) e),
+      ltb-true at end (and-left (ltb at end) (ltb steps budget) both),
+      ltb-true steps budget (and-right (ltb at end) (ltb steps budget) both),
     )
 
 -- what the test says

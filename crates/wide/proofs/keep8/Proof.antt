@@ -10,10 +10,10 @@ use Rattle.wide.proofs.keep8.Statement.{statement}
 use Rattle.wide.proofs.keep8.Tie as tie
 
 abbrev Inv-loop : tie.InvT-loop
-Inv-loop text cells q flags at x from f₀ j₀ f j = (j ≤ 8) × KeepsTo cells q x flags j f
+Inv-loop text cells q flags at from x f₀ j₀ f j = (j ≤ 8) × KeepsTo cells q x flags j f
 
 abbrev μ-loop : tie.MeasureT-loop
-μ-loop text cells q flags at x from f₀ j₀ f j = 8 - j
+μ-loop text cells q flags at from x f₀ j₀ f j = 8 - j
 
 add-t12 : tie.Need-add-t12 Inv-loop μ-loop
 add-t12 c = omega arith

@@ -1,6 +1,5 @@
 -- `wide::next_mark` meets its contract: the number of places, or the move by the bit after the window.
 -- Assumes nothing.
-use borrow.Author.Needs.{needs}
 use Prim.Native.Nat.{_+_, _-_, _*_, _≤_, _<_}
 use native.Mathlib.Omega.{arith}
 use denote.Ref.{now}
@@ -22,22 +21,22 @@ short c =
     (times-bit (1 - c .bit .result) (a .zero) 4096 (omega arith) (omega arith), times-bit (c .bit .result) (a .one) 4096 (is-bit c) (omega arith))
 
 sub-end : tie.Need-sub-end
-sub-end c = search needs
+sub-end c = omega arith
 
 add-end : tie.Need-add-end
-add-end c = search needs
+add-end c = omega arith
 
 add-after : tie.Need-add-after
-add-after c = search needs
+add-after c = omega arith
 
 add-after-2 : tie.Need-add-after-2
-add-after-2 c = search needs
+add-after-2 c = omega arith
 
 bit-requires : tie.Need-bit-requires
-bit-requires c κs = search needs
+bit-requires c κs = omega arith
 
 cast-c : tie.Need-cast-c
-cast-c c = search needs
+cast-c c = omega arith
 
 sub-ahead : tie.Need-sub-ahead
 sub-ahead c = omega (arith, is-bit c)

@@ -1,7 +1,6 @@
 -- `wide::scan` meets its contract: all flags of the last step; one pass, and another where it leaves several; or, for a
 -- longer pattern, two bytes after the other. The loop's invariant: the flags of occurrences are left.
 -- Assumes nothing.
-use borrow.Author.Needs.{needs}
 use Prim.Native.Nat.{_+_, _-_, _^_, _≤_, _<_}
 use native.Mathlib.Omega.{arith}
 use denote.Ref.{now}
@@ -12,10 +11,10 @@ use Rattle.wide.proofs.scan.Statement.{statement}
 use Rattle.wide.proofs.scan.Tie as tie
 
 abbrev Inv-loop : tie.InvT-loop
-Inv-loop text n m cells s at after f₀ q₀ f q = Leaves (textOf text 0) m cells (s .0) 18446744073709551615 f × (q ≤ 2112) × (f < 2 ^ 64)
+Inv-loop text n m cells s at until f₀ q₀ f q = Leaves (textOf text 0) m cells (s .0) 18446744073709551615 f × (q ≤ 2112) × (f < 2 ^ 64)
 
 abbrev μ-loop : tie.MeasureT-loop
-μ-loop text n m cells s at after f₀ q₀ f q = 4096 - q
+μ-loop text n m cells s at until f₀ q₀ f q = 4096 - q
 
 -- the flags that the two bytes leave
 left : (c : tie.After-keep82 Inv-loop μ-loop)
@@ -28,11 +27,11 @@ left c =
     (leaves-keep (textOf (now (a .text)) 0) (a .m) (now (a .cells)) (a .s .0) 18446744073709551615 (l .f) (c .before .keep8 .result) (l .q) (l .inv .0) (c .before .keep8 .ensures) (omega arith))
     (c .keep82 .ensures) (omega arith)
 
-add-after : tie.Need-add-after Inv-loop μ-loop
-add-after c = omega arith
+add-until : tie.Need-add-until Inv-loop μ-loop
+add-until c = omega arith
 
-add-after-2 : tie.Need-add-after-2 Inv-loop μ-loop
-add-after-2 c = omega arith
+add-until-2 : tie.Need-add-until-2 Inv-loop μ-loop
+add-until-2 c = omega arith
 
 cast-result : tie.Need-cast-result Inv-loop μ-loop
 cast-result c = omega arith
@@ -43,10 +42,10 @@ shr-result c = omega arith
 returns : tie.Need-returns Inv-loop μ-loop
 returns c =
     let a = c .before .before .before .args in
-    scanned-end (now (a .text)) (a .n) (a .m) (now (a .cells)) (a .s .0) (omega arith) (omega arith)
+    scanned-end (now (a .text)) (a .n) (a .m) (now (a .cells)) (a .s .0) _ (omega arith) (omega arith)
 
 pass-requires : tie.Need-pass-requires Inv-loop μ-loop
-pass-requires c κs = search needs
+pass-requires c κs = omega arith
 
 returns-2 : tie.Need-returns-2 Inv-loop μ-loop
 returns-2 c =
@@ -54,7 +53,7 @@ returns-2 c =
     scanned-whole (now (a .text)) (a .n) (a .m) (now (a .cells)) (a .s .0) (c .before .pass .result) (omega arith) (c .before .pass .ok) (c .before .pass .ensures)
 
 pass-requires-2 : tie.Need-pass-requires-2 Inv-loop μ-loop
-pass-requires-2 c κs = search needs
+pass-requires-2 c κs = omega arith
 
 returns-3 : tie.Need-returns-3 Inv-loop μ-loop
 returns-3 c =
@@ -108,8 +107,8 @@ scan-spec =
     (tie.spec
     Inv-loop
     μ-loop
-    add-after
-    add-after-2
+    add-until
+    add-until-2
     cast-result
     shr-result
     returns

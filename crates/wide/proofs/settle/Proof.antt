@@ -1,7 +1,7 @@
 -- `wide::settle` meets its contract. The loop's invariant: the places passed are settled, and the flags are those of the
 -- places from here on.
 -- Assumes nothing.
-use mathlib.Core.Path.{_≡_, sym, _∙_}
+use mathlib.Core.Path.{_≡_}
 use Prim.Native.Nat.{_+_, _-_, _≤_, _<_}
 use native.Mathlib.Omega.{arith}
 use denote.Ref.{now}
@@ -66,7 +66,7 @@ returns c =
     let a = c .before .before .before .before .before .before .before .before .args in
     let l = c .before .before .before .before .loop in
     settling-full (textOf (now (a .text)) (a .n)) (patternOf (now (a .word)) (a .m)) (a .s .0) (now (a .list)) (a .had) (omega arith) (l .list) (l .at) (l .f) (l .hits) (l .inv) (c .before .before .before .loop-test .taken)
-    (sym (c .before .before .same .ensures) ∙ c .before .if1 .taken) (omega (arith, long (c .before .before .before .before)))
+    (c .before .before .same .result) (c .before .before .same .ensures) (c .before .if1 .taken) (omega (arith, long (c .before .before .before .before)))
 
 mul-list : tie.Need-mul-list Inv-loop μ-loop
 mul-list c = omega (arith, long (c .before .before .before .before))
@@ -85,7 +85,7 @@ loop-again c =
     let a = c .before .before .before .before .before .before .before .before .args in
     let l = c .before .before .before .before .loop in
     settling-hit (textOf (now (a .text)) (a .n)) (patternOf (now (a .word)) (a .m)) (a .s .0) (now (a .list)) (a .had) (omega arith) (l .list) (l .at) (l .f) (l .hits) (l .inv) (c .before .before .before .loop-test .taken)
-    (sym (c .before .before .same .ensures) ∙ c .before .if1 .taken) (omega (arith, long (c .before .before .before .before)))
+    (c .before .before .same .result) (c .before .before .same .ensures) (c .before .if1 .taken) (omega (arith, long (c .before .before .before .before)))
 
 loop-less-2 : tie.Need-loop-less-2 Inv-loop μ-loop
 loop-less-2 c = omega (arith, low (c .before .before))
@@ -94,7 +94,7 @@ loop-again-2 : tie.Need-loop-again-2 Inv-loop μ-loop
 loop-again-2 c =
     let a = c .before .before .before .before .before .before .before .args in
     let l = c .before .before .before .loop in
-    settling-miss (textOf (now (a .text)) (a .n)) (patternOf (now (a .word)) (a .m)) (a .s .0) (now (a .list)) (a .had) (omega arith) (l .list) (l .at) (l .f) (l .hits) (l .inv) (c .before .before .loop-test .taken) (sym (c .before .same .ensures) ∙ c .if1 .left)
+    settling-miss (textOf (now (a .text)) (a .n)) (patternOf (now (a .word)) (a .m)) (a .s .0) (now (a .list)) (a .had) (omega arith) (l .list) (l .at) (l .f) (l .hits) (l .inv) (c .before .before .loop-test .taken) (c .before .same .result) (c .before .same .ensures) (c .if1 .left)
 
 same-length-2 : tie.Need-same-length-2 Inv-loop μ-loop
 same-length-2 c = long (c .before)
