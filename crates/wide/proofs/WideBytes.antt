@@ -78,7 +78,7 @@ module _ (w : Pattern) where
       (λ e. ap (λ (b : ℕ). 1 - b) e ∙ sym (ap bitFor (not-true-false (agrees w p 0) (λ t. absurd (omega (arith, agrees-iff w p 0 .0 t))))))
       (bit-or-bit (bitAt (w .bytes) p) (bit-lt (w .bytes) p))
 
-  -- bits of the pattern that agree with c, and behind the pattern ones
+  -- bits of the pattern that agree with c, and after the pattern ones
   enters-padded : (c q v pad : ℕ) → v < 2 ^ 8 → Padding (w .count) q pad
       → ((j : ℕ) → j < 8 → q + j < w .count → bitOf 8 v j ≡ bitFor (agrees w (q + j) c)) → Enters w c q (bitOr v pad)
   enters-padded c q v pad h p f = record { small = or-lt 8 v pad h (p .small); flags = λ j l. weight-or v pad (7 - j) ∙ go j l (decLe (w .count) (q + j)) }
@@ -174,7 +174,7 @@ module _ (w : Pattern) where
             (weight-shr y (7 - r) i ∙ weight-out {x = y} {w = 8} {i = 7 - r + i} (e .small) (omega arith))
             ∙ max-zero _
 
-    -- the flags behind all eight
+    -- the flags after all eight
     pub before-moved : Before w c (q + 8) (bitOr ((x * 256) % 2 ^ 64) y)
     before-moved =
         let there : q + 7 + 1 ≡ q + 8 = omega arith in

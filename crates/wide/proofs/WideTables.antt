@@ -143,7 +143,7 @@ module _ (w : Pattern) (c : ℕ) where
 
 -- The table
 
--- the cells of the window bits below q are made, and the cells behind the table are as they were
+-- the cells of the window bits below q are made, and the cells after the table are as they were
 pub record Filled (w : Pattern) (before cells : List ℕ) (q : ℕ) : Type 0 where
   pub flags : (p c i : ℕ) → p < q → c < 2 → i < 64 → weight (getD cells (2 * p + c) 0) i ≡ cond (passes w c p i) 1 0
   pub size : length cells ≡ length before

@@ -1,5 +1,8 @@
-// The wide method: 64 places at a time, a flag for each. Cell 2 q + c of the table holds the flags that window bit q
-// leaves standing if it is c. Some window bits leave few flags, and those are settled by comparison.
+// The wide method: a step decides 64 places at once. Flag i stands for place s + i, and the window, the 63 + m bits of the
+// text from s on, holds all of these places. Window bit q lets flag i fall if the pattern's bit at index q - i is another
+// one; cell 2 q + c of the table holds the flags that it leaves standing if it is c. Cells may be ANDed in any order, and
+// few window bits leave few flags: those are settled by comparison, lowest first. The bit after the window tells how far the
+// next mark lies ahead: where the pattern's last index with that bit lies on it.
 use bits::Place;
 use bits::bit;
 use bits::load;
@@ -68,7 +71,7 @@ fn enter(q: u32, k: usize, zero: u64, one: u64, y: u64, x: u64, cells: &mut [u64
     }
 }
 
-// The table, eight window bits at a time. The last ones, fewer than eight, lie behind the pattern.
+// The table, eight window bits at a time. The last ones, fewer than eight, lie after the pattern.
 pub fn prepare(word: &[u8], m: u32, cells: &mut [u64])
     requires { ⌜ GoodPattern Method.Wide (patternOf (now word) m) ⌝ }
     requires { ⌜ cellsFor Method.Wide m ≤ length (now cells) ⌝ }
@@ -139,10 +142,11 @@ fn pass(text: &[u8], m: u32, cells: &[u64], s: Place, from: u32, flags: u64) -> 
     f
 }
 
-// Flags for the 64 places from s on. Where at most one flag stands, further window bits would cost more than a comparison.
-// In a pattern below 64 bits no window bit speaks for all flags: every second byte, and then the others. In a longer
-// one those from 56 on speak for nearly all. The window is looked at only where it lies whole in the text, so that no load
-// needs a test for its end. In the last step, where it does not, the flags of all places that are left stand.
+// Flags for the 64 places from s on. In a pattern below 64 bits no window bit speaks for all flags: every second byte, and
+// then the others. In a longer one those from 56 on speak for nearly all. Where at most one flag stands, and mostly none
+// does, further window bits would cost more than a comparison. The window is looked at only where it lies whole in the
+// text, so that no load needs a test for its end. In the last step, where it does not, the flags of all places that are left
+// stand.
 fn scan(text: &[u8], n: u32, m: u32, cells: &[u64], s: Place) -> u64
     requires { ⌜ (m ≤ 2048) × (2 * (63 + m) ≤ length (now cells)) ⌝ }
     requires { ⌜ (n ≤ 2 ^ 30) × (n ≤ length (now text) * 8) × (s .0 + m ≤ n) ⌝ }
@@ -165,6 +169,9 @@ fn scan(text: &[u8], n: u32, m: u32, cells: &[u64], s: Place) -> u64
     while q + 16 <= m + 63 {
         f = keep8(text, cells, s, q, f);
         f = keep8(text, cells, s, q + 8, f);
+        if f == 0 {
+            return 0;
+        }
         if u64::count_ones(f) < 2 {
             return f;
         }

@@ -84,7 +84,13 @@ keep8-requires-2 c κs = omega arith
 returns-4 : tie.Need-returns-4 Inv-loop μ-loop
 returns-4 c =
     let a = c .before .before .before .before .before .before .before .before .before .args in
-    scanned-whole (now (a .text)) (a .n) (a .m) (now (a .cells)) (a .s .0) (c .before .keep82 .result) (omega arith) (c .before .keep82 .ok) (left (c .before))
+    scanned-whole (now (a .text)) (a .n) (a .m) (now (a .cells)) (a .s .0) 0 (omega arith) (omega arith) (rw (c .if4 .taken) at (left (c .before)))
+
+returns-5 : tie.Need-returns-5 Inv-loop μ-loop
+returns-5 c =
+    let a = c .before .before .before .before .before .before .before .before .before .before .args in
+    let keep = c .before .before .keep82 in
+    scanned-whole (now (a .text)) (a .n) (a .m) (now (a .cells)) (a .s .0) (keep .result) (omega arith) (keep .ok) (left (c .before .before))
 
 add-q : tie.Need-add-q Inv-loop μ-loop
 add-q c = omega arith
@@ -93,10 +99,10 @@ loop-less : tie.Need-loop-less Inv-loop μ-loop
 loop-less c = omega arith
 
 loop-again : tie.Need-loop-again Inv-loop μ-loop
-loop-again c = (left (c .before), omega arith, c .before .keep82 .ok)
+loop-again c = (left (c .before .before), omega arith, c .before .before .keep82 .ok)
 
-returns-5 : tie.Need-returns-5 Inv-loop μ-loop
-returns-5 c =
+returns-6 : tie.Need-returns-6 Inv-loop μ-loop
+returns-6 c =
     let a = c .before .before .before .before .before .before .args in
     let l = c .before .loop in
     scanned-whole (now (a .text)) (a .n) (a .m) (now (a .cells)) (a .s .0) (l .f) (omega arith) (l .inv .2) (l .inv .0)
@@ -123,7 +129,8 @@ scan-spec =
     add-keep8
     keep8-requires-2
     returns-4
+    returns-5
     add-q
     loop-less
     loop-again
-    returns-5)
+    returns-6)
