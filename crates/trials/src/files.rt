@@ -1,24 +1,27 @@
-// The position list file: drawn lists there and back, and drawn and damaged bytes, against a naive writer and reader.
+// The position list file: drawn lists there and back, and drawn and damaged bytes, against a naive writer and reader. A
+// buffer has the library's target at its front and the naive writer's file from FILE on.
 use crate::cells;
-use crate::draw::below;
-use crate::draw::next;
+use crate::cells::get32;
+use crate::cells::put32;
+use crate::codec;
+use crate::codec::FILE;
+use crate::codec::Judged;
+use crate::codec::REFUSED;
+use crate::draw::choose;
+use crate::draw::draw;
 use crate::number::byte;
-use crate::number::index;
 use crate::number::least_of;
 use crate::number::minus;
-use crate::number::of_byte;
 use crate::number::plus;
 use crate::number::small;
+use crate::packed;
+use crate::packed::get8;
+use crate::packed::put8;
 use positions::ByteCount;
 use positions::ReadAnswer;
 use positions::ReadRefusal;
 use positions::WriteRefusal;
 use positions::Written;
-
-// Refusals are above every count.
-const REFUSED: usize = 1000000;
-
-const LIMIT: usize = 1073741824;
 
 fn write_number(why: WriteRefusal) -> usize {
     match why {
@@ -27,14 +30,14 @@ fn write_number(why: WriteRefusal) -> usize {
     }
 }
 
-fn written(answer: Written) -> usize {
+fn written_in(answer: Written) -> usize {
     match answer {
         Written::Bytes(n) => n,
         Written::Refused(why) => write_number(why),
     }
 }
 
-fn counted(answer: ByteCount) -> usize {
+fn counted_in(answer: ByteCount) -> usize {
     match answer {
         ByteCount::Bytes(n) => n,
         ByteCount::Refused(why) => write_number(why),
@@ -58,321 +61,170 @@ fn read_in(answer: ReadAnswer) -> usize {
     }
 }
 
-// ---- the naive writer
-
-// The groups of a number from `start` on, and the index behind them.
-fn put_number(out: &mut [u8], start: usize, number: usize) -> usize {
-    let mut at = start;
-    let mut rest = number;
-    while 128 <= rest {
-        cells::put8(out, at, byte(rest % 128 + 128));
-        at = plus(at, 1);
-        rest = rest / 128;
-    }
-    cells::put8(out, at, byte(rest));
-    plus(at, 1)
-}
-
-// The file of the first k cells, and its bytes; or 8.
-fn encode(list: &[u32], k: usize, out: &mut [u8]) -> usize {
-    let mut at = put_number(out, 0, k);
-    let mut least: usize = 0;
+// Whether the target has the naive writer's bytes, so many, and the others as they were.
+fn same_bytes(s: &[u8], count: usize, x: usize) -> bool {
     let mut i: usize = 0;
-    while i < k {
-        let p = index(cells::get32(list, i));
-        if p < least {
-            return REFUSED + 8;
+    while i < FILE {
+        let want = if i < count {
+            get8(s, plus(FILE, i))
+        } else {
+            byte(draw(x, i, 256))
+        };
+        if get8(s, i) != want {
+            return false;
         }
-        if LIMIT <= p {
-            return REFUSED + 8;
-        }
-        at = put_number(out, at, minus(p, least));
-        least = plus(p, 1);
         i += 1;
     }
-    at
+    true
 }
 
-// ---- the naive reader
-
-// A number, and the index behind it; or its fault.
-struct Number {
-    fault: usize,
-    value: usize,
-    after: usize,
+// How much is written: nothing where a number is a refusal's.
+fn count_of(number: usize) -> usize {
+    if number < REFUSED { number } else { 0 }
 }
 
-fn fault(number: usize) -> Number {
-    Number {
-        fault: number,
-        value: 0,
-        after: 0,
-    }
+// The library's writer, with a target of so many bytes.
+fn write_into(list: &[u32], room: usize, s: &mut [u8]) -> usize {
+    let k = least_of(room, s.len());
+    written_in(positions::write(list, &mut s[0..k]))
 }
 
-fn get_number(file: &[u8], start: usize) -> Number {
-    let mut value: usize = 0;
-    let mut k: usize = 0;
-    while k < 5 {
-        if file.len() <= plus(start, k) {
-            return fault(10);
-        }
-        let b = of_byte(cells::get8(file, plus(start, k)));
-        value = plus(value, (b % 128) << (7 * k));
-        if b < 128 {
-            return last_group(b, k, value, plus(plus(start, k), 1));
-        }
-        k += 1;
-    }
-    fault(12)
-}
-
-fn last_group(b: usize, k: usize, value: usize, after: usize) -> Number {
-    if 0 < k {
-        if b == 0 {
-            return fault(11);
-        }
-    }
-    if LIMIT < value {
-        return fault(12);
-    }
-    Number {
-        fault: 0,
-        value: value,
-        after: after,
+// The file is read as the naive reader does, into cells that are enough or not; the cells after what was read stay, and a
+// refusal leaves all of them.
+pub(crate) fn read(file: &[u8], room: usize, x: usize, list: &mut [u32]) -> Judged {
+    cells::fill32(list, x);
+    let k = least_of(room, list.len());
+    let got = read_in(positions::read(file, &mut list[0..k]));
+    let want = codec::decode(file, room, list);
+    Judged {
+        good: want.good & (got == want.number) & cells::stay32(list, count_of(want.number), x),
+        number: got,
     }
 }
 
-// The positions go to `out`; the answer is their count, or the first fault.
-fn decode(file: &[u8], room: usize, out: &mut [u32]) -> usize {
-    let count = get_number(file, 0);
-    if 0 < count.fault {
-        return plus(REFUSED, count.fault);
-    }
-    if room < count.value {
-        return REFUSED + 14;
-    }
-    decode_body(file, count.after, count.value, out)
+// What was written is read back as the list.
+fn back(file: &[u8], list: &[u32], x: usize) -> bool {
+    let mut read_back = [0u32; 24];
+    let got = read(file, 24, x, &mut read_back);
+    let want = codec::decode(file, 24, list);
+    got.good & want.good & (got.number == list.len()) & (want.number == list.len())
 }
 
-fn decode_body(file: &[u8], start: usize, count: usize, out: &mut [u32]) -> usize {
-    let mut at = start;
-    let mut least: usize = 0;
-    let mut i: usize = 0;
-    while i < count {
-        let one = get_number(file, at);
-        if 0 < one.fault {
-            return plus(REFUSED, one.fault);
-        }
-        let p = plus(least, one.value);
-        if LIMIT <= p {
-            return REFUSED + 12;
-        }
-        cells::put32(out, i, small(p));
-        least = plus(p, 1);
-        at = one.after;
-        i += 1;
-    }
-    if at < file.len() { REFUSED + 13 } else { count }
+// A list is written as the naive writer does, into a target that is long enough or not; what lies after stays.
+pub(crate) fn written(list: &[u32], room: usize, x: usize, s: &mut [u8]) -> Judged {
+    let size = codec::encode(list, s);
+    let got = write_into(list, room, s);
+    judge_file(list, room, x, size, got, s)
 }
 
-// ---- cases
+fn judge_file(list: &[u32], room: usize, x: usize, size: usize, got: usize, s: &[u8]) -> Judged {
+    let want = if (size < REFUSED) & (room < size) {
+        REFUSED + 9
+    } else {
+        size
+    };
+    let count = count_of(want);
+    let same = (counted_in(positions::size(list)) == size)
+        & (got == want)
+        & same_bytes(s, count, x);
+    Judged {
+        good: same & ((count == 0) | back(packed::part(s, 0, count), list, x)),
+        number: got,
+    }
+}
+
+// Distances less 1 of every class, out of 16.
+const DISTANCES: [usize; 14] = [
+    0,
+    1,
+    126,
+    4,
+    16382,
+    4,
+    2097150,
+    4,
+    268435454,
+    4,
+    0,
+    1073741824,
+    0,
+    300,
+];
 
 // Rising positions with drawn distances.
-fn draw_list(list: &mut [u32], seed: usize) {
-    let mut x = seed;
-    let mut p = below(seed, 300);
+fn draw_list(list: &mut [u32], x: usize) {
+    let mut p = draw(x, 30, 300);
     let mut i: usize = 0;
     while i < list.len() {
-        cells::put32(list, i, small(p));
-        x = next(x);
-        p = plus(plus(p, 1), distance(x));
+        list[i] = small(p);
+        let distance = choose(&DISTANCES, draw(x, i ^ 64, 16), x, i ^ 128);
+        p = plus(plus(p, 1), distance);
         i += 1;
     }
 }
 
-fn distance(x: usize) -> usize {
-    let class = below(x, 16);
-    let y = next(x);
-    match class {
-        0 => 0,
-        1 => plus(126, below(y, 4)),
-        2 => plus(16382, below(y, 4)),
-        3 => plus(2097150, below(y, 4)),
-        4 => plus(268435454, below(y, 4)),
-        5 => below(y, 1073741824),
-        _ => below(y, 300),
+// A drawn list of up to 24 positions is spoiled now and then, so that it may not rise: a position is the one before it, or
+// about the limit.
+pub(crate) fn drawn_list(x: usize, s: &mut [u8; 300], list: &mut [u32; 24]) -> bool {
+    draw_list(list, x);
+    let k = draw(x, 0, 25);
+    let i = draw(x, 1, k);
+    let spoiled = draw(x, 2, 40);
+    let other = if spoiled == 10 {
+        small(plus(1073741822, draw(x, 4, 4)))
+    } else {
+        get32(list, minus(i, draw(x, 3, 2)))
+    };
+    if spoiled <= 10 {
+        put32(list, i, other);
+    }
+    let room = if draw(x, 5, 3) == 0 {
+        draw(x, 6, plus(k, 6))
+    } else {
+        FILE
+    };
+    let got = written(cells::part32(list, k), room, x, s);
+    got.good
+}
+
+// The bytes that a file is damaged with.
+const DAMAGE: [usize; 10] = [0, 1, 128, 1, 255, 1, 127, 1, 0, 256];
+
+// How many bytes a file of so many has, with some cut off or left over.
+fn damaged_size(size: usize, kind: usize, x: usize) -> usize {
+    match kind {
+        3 => minus(size, draw(x, 5, 4)),
+        4 => plus(size, draw(x, 5, 3)),
+        _ => size,
     }
 }
 
-// Spoils a list now and then, so that it may not rise.
-fn spoil(list: &mut [u32], k: usize, x: usize) {
-    let y = next(x);
-    let i = below(y, k);
-    cells::put32_if(
-        below(x, 4) == 0,
-        list,
-        i,
-        cells::get32(list, minus(i, below(y, 2))),
-    );
-    cells::put32_if(
-        below(x, 40) == 1,
-        list,
-        i,
-        small(plus(1073741822, below(y, 4))),
-    );
-}
-
-// a once in k draws, else b.
-fn one_in(k: usize, x: usize, a: usize, b: usize) -> usize {
-    if below(x, k) == 0 { a } else { b }
-}
-
-// A list is written as the naive writer does, into a target that is long enough or not; what lies behind stays. What was
-// written is read back.
-pub(crate) fn write(x: usize) -> bool {
-    let mut list = [0u32; 24];
-    let mut target = [0u8; 128];
-    let mut want = [0u8; 128];
-    let k = below(x, 25);
-    cells::fill8(&mut target, x, 0, 256);
-    cells::fill8(&mut want, x, 0, 256);
-    draw_list(&mut list, next(x));
-    spoil(&mut list, k, next(next(x)));
-    let a = cells::fit32(k, &list);
-    write_part(&list[..a], k, &mut target, &mut want, next(next(next(x))))
-}
-
-fn write_part(list: &[u32], k: usize, target: &mut [u8], want: &mut [u8], x: usize) -> bool {
-    let mut whole = [0u8; 200];
-    let size = encode(list, k, &mut whole);
-    if counted(positions::size(list)) != size {
-        return false;
+// Bytes of a drawn kind: those of a list, one of them changed or some cut off or left over, or not damaged; or bytes drawn
+// at random after a small count.
+fn draw_file(x: usize, s: &mut [u8; 300], list: &mut [u32; 24]) -> usize {
+    if draw(x, 0, 3) == 0 {
+        put8(s, FILE, byte(draw(x, 1, 6)));
+        return draw(x, 2, 16);
     }
-    let room = one_in(3, x, below(next(x), plus(k, 6)), 128);
-    let a = cells::fit8(room, target);
-    let got = written(positions::write(list, &mut target[..a]));
-    if REFUSED <= size {
-        return got == size && cells::agree8(target, 0, want, 0, 128);
+    draw_list(list, x);
+    let size = least_of(codec::encode(cells::part32(list, draw(x, 3, 13)), s), 100);
+    let kind = draw(x, 4, 6);
+    if kind < 3 {
+        put8(
+            s,
+            plus(FILE, draw(x, 5, size)),
+            byte(choose(&DAMAGE, draw(x, 6, 6), x, 7)),
+        );
     }
-    if room < size {
-        return got == REFUSED + 9 && cells::agree8(target, 0, want, 0, 128);
-    }
-    cells::copy8(&whole, 0, want, size);
-    got == size && cells::agree8(target, 0, want, 0, 128) && back(list, k, target, size)
+    damaged_size(size, kind, x)
 }
 
-// The file of a list is read back as that list.
-fn back(list: &[u32], k: usize, file: &[u8], size: usize) -> bool {
-    let mut cells_ = [5u32; 24];
-    let a = cells::fit8(size, file);
-    let got = read_in(positions::read(&file[..a], &mut cells_));
-    got == k && cells::agree32(&cells_, list, k)
-}
+// Cells for what is read, too few or enough: up to 12 once in four draws.
+const CELLS: [usize; 4] = [0, 13, 16, 1];
 
-// Bytes of a drawn kind: those of a list, damaged or not, or few values drawn at random.
-fn draw_file(file: &mut [u8], x: usize) -> usize {
-    let mut list = [0u32; 12];
-    let y = next(x);
-    if below(x, 3) == 0 {
-        cells::fill8(file, y, 0, 256);
-        cells::put8(file, 0, byte(below(y, 6)));
-        return below(next(y), 16);
-    }
-    let k = below(y, 13);
-    draw_list(&mut list, next(y));
-    let size = encode(&list, k, file);
-    damage(file, size, next(next(y)))
-}
-
-// One byte changed, and some cut off or left over.
-fn damage(file: &mut [u8], size: usize, x: usize) -> usize {
-    let y = next(x);
-    let kind = below(x, 6);
-    cells::put8_if(
-        kind < 3,
-        file,
-        below(y, least_of(size, 100)),
-        odd_byte(next(y)),
-    );
-    if kind == 3 {
-        return minus(least_of(size, 100), below(y, 4));
-    }
-    if kind == 4 {
-        return plus(least_of(size, 100), below(y, 3));
-    }
-    least_of(size, 100)
-}
-
-fn odd_byte(x: usize) -> u8 {
-    let class = below(x, 6);
-    match class {
-        0 => 0,
-        1 => 128,
-        2 => 255,
-        3 => 127,
-        _ => byte(below(next(x), 256)),
-    }
-}
-
-// A file is read as the naive reader does, into cells that are enough or not; the cells behind stay, and a refusal leaves
-// all of them.
-pub(crate) fn read(x: usize) -> bool {
-    let mut file = [0u8; 128];
-    let size = draw_file(&mut file, x);
-    let room = one_in(4, next(x), below(x, 13), 16);
-    let a = cells::fit8(size, &file);
-    read_part(&file[..a], room)
-}
-
-fn read_part(file: &[u8], room: usize) -> bool {
-    let mut list = [5u32; 16];
-    let mut want = [5u32; 16];
-    let size = decode(file, room, &mut want);
-    let got = read_into(file, &mut list, room);
-    got == size && read_as(size, &list, &want)
-}
-
-fn read_into(file: &[u8], list: &mut [u32], room: usize) -> usize {
-    let a = cells::fit32(room, list);
-    read_in(positions::read(file, &mut list[..a]))
-}
-
-// Whether the cells are as wanted, or as they were after a refusal.
-fn read_as(size: usize, list: &[u32], want: &[u32]) -> bool {
-    let before = [5u32; 16];
-    if REFUSED <= size {
-        return cells::agree32(list, &before, 16);
-    }
-    cells::agree32(list, want, 16)
-}
-
-// ---- document 01's examples
-
-// The list's file is these bytes, there and back.
-pub(crate) fn paper(list: &[u32], file: &[u8]) -> bool {
-    let mut target = [0u8; 8];
-    let mut room = [5u32; 4];
-    let size = written(positions::write(list, &mut target));
-    let got = read_in(positions::read(file, &mut room));
-    size == file.len()
-        && cells::agree8(&target, 0, file, 0, size)
-        && got == list.len()
-        && cells::agree32(&room, list, got)
-}
-
-// The list is refused for a target of so many bytes.
-pub(crate) fn not_written(list: &[u32], room: usize, number: usize) -> bool {
-    let mut target = [0u8; 8];
-    let a = cells::fit8(room, &target);
-    let got = written(positions::write(list, &mut target[..a]));
-    got == plus(REFUSED, number)
-}
-
-// The file is refused for so many cells.
-pub(crate) fn not_read(file: &[u8], room: usize, number: usize) -> bool {
-    let mut list = [5u32; 1];
-    let a = cells::fit32(room, &list);
-    let got = read_in(positions::read(file, &mut list[..a]));
-    got == plus(REFUSED, number)
+pub(crate) fn drawn_file(x: usize, s: &mut [u8; 300], list: &mut [u32; 24]) -> bool {
+    let size = draw_file(x, s, list);
+    let room = choose(&CELLS, draw(x, 8, 4), x, 9);
+    let got = read(packed::part(s, FILE, size), room, x, list);
+    got.good
 }

@@ -1,79 +1,126 @@
 // Program `trials`: drawn cases of every kind against a naive search and a naive reader and writer of the position list
 // file, and the named cases of document 01. It prints how many cases each kind has, and the count of disagreements.
-mod calls;
-mod case;
+mod call;
 mod cells;
+mod codec;
 mod draw;
+mod drawn;
 mod files;
-mod hash;
 mod naive;
 mod named;
 mod number;
-mod refusals;
-mod tally;
+mod packed;
+mod single;
 
 use libc::STDOUT_FILENO;
-use tally::Tally;
 
-// One case of a kind, by its number and a drawn one.
-fn one(kind: usize, i: usize, x: usize) -> bool {
+// A case over a buffer of bits, a list and a scratch: a method whole, a list of calls, a row of the refusals, H, or a named
+// one.
+fn over_bits(kind: usize, i: usize, x: usize) -> bool {
+    let mut s = [0u8; 813];
+    let mut list = [0u32; 4400];
+    let mut scratch = [0u64; 4226];
     match kind {
-        5 => refusals::row(i),
-        6 => refusals::eight_bits(x),
-        7 => files::write(x),
-        8 => files::read(x),
-        9 => hash::drawn(x),
-        10 => named::one(i),
-        _ => calls::drawn(kind, x),
+        9 => single::drawn_hash(x, &mut s),
+        10 => named::one(i, &mut s, &mut list, &mut scratch),
+        _ => drawn::one(kind, i, x, &mut s, &mut list, &mut scratch),
     }
 }
 
-// So many cases of a kind.
-fn many(kind: usize, count: usize) -> Tally {
-    let mut tally = Tally::none();
+// A case over a few bytes and cells: eight bits, or the position list file.
+fn over_bytes(kind: usize, i: usize, x: usize) -> bool {
+    let mut s = [0u8; 300];
+    let mut list = [0u32; 24];
+    packed::fill(&mut s, x);
+    match kind {
+        6 => single::eight_bits(x, &mut s),
+        7 => files::drawn_list(x, &mut s, &mut list),
+        8 => files::drawn_file(x, &mut s, &mut list),
+        _ => named::list(i, x, &mut s, &mut list),
+    }
+}
+
+// A case of a kind, by its number and a drawn one.
+fn one(kind: usize, i: usize, x: usize) -> bool {
+    if (kind == 10) & (52 < i) {
+        return over_bytes(kind, number::minus(i, 53), x);
+    }
+    match kind {
+        6 | 7 | 8 => over_bytes(kind, i, x),
+        _ => over_bits(kind, i, x),
+    }
+}
+
+// So many cases of a kind: how many disagree.
+fn many(kind: usize, count: usize) -> usize {
+    let mut wrong: usize = 0;
     let mut x = 88172645463325252 + kind % 16;
     let mut i: usize = 0;
     while i < count {
         x = draw::next(x);
-        tally = tally.with(one(kind, i, x));
+        wrong = number::plus(wrong, !one(kind, i, x) as usize);
         i += 1;
     }
-    tally
+    wrong
 }
 
-// Prints the count of a kind, and hands on the disagreements.
-fn line(name: &[u8], tally: Tally, wrong: u32) -> u32 {
+// The kinds: where each one's name ends, and how many cases it has. A name has 32 bytes of room.
+const NAMES: [u8; 352] = *b"\
+    plain, whole                    \
+    hash, whole                     \
+    skip, whole                     \
+    wide, whole                     \
+    lists of twelve calls           \
+    refusals and their neighbours   \
+    eight bits                      \
+    position lists written          \
+    position files read             \
+    H                               \
+    named                           ";
+
+const COUNTS: [usize; 22] = [
+    13,
+    30000,
+    12,
+    30000,
+    12,
+    30000,
+    12,
+    30000,
+    22,
+    10000,
+    30,
+    drawn::ROWS,
+    11,
+    40000,
+    23,
+    60000,
+    20,
+    60000,
+    2,
+    40000,
+    6,
+    64,
+];
+
+// Prints a name and a count.
+fn line(name: &[u8], count: usize) {
     io::write_all(STDOUT_FILENO, name);
-    io::print_decimal(STDOUT_FILENO, tally.cases as u64);
+    io::print_decimal(STDOUT_FILENO, count as u64);
     io::write_all(STDOUT_FILENO, b"\n");
-    std::num::wrapping_add_u32(wrong, tally.wrong)
-}
-
-fn methods() -> u32 {
-    let a = line(b"plain, whole ", many(0, 30000), 0);
-    let b = line(b"hash, whole ", many(1, 30000), a);
-    let c = line(b"skip, whole ", many(2, 30000), b);
-    line(b"wide, whole ", many(3, 30000), c)
-}
-
-fn others() -> u32 {
-    let a = line(b"lists of twelve calls ", many(4, 10000), 0);
-    let b = line(
-        b"refusals and their neighbours ",
-        many(5, refusals::ROWS),
-        a,
-    );
-    let c = line(b"eight bits ", many(6, 40000), b);
-    let d = line(b"position lists written ", many(7, 60000), c);
-    let e = line(b"position files read ", many(8, 60000), d);
-    let f = line(b"H ", many(9, 40000), e);
-    line(b"named ", many(10, named::CASES), f)
 }
 
 fn main() {
-    let a = methods();
-    let b = others();
-    io::write_all(STDOUT_FILENO, b"disagreements ");
-    io::print_decimal(STDOUT_FILENO, std::num::wrapping_add_u32(a, b) as u64);
-    io::write_all(STDOUT_FILENO, b"\n");
+    let mut wrong: usize = 0;
+    let mut kind: usize = 0;
+    while kind < 11 {
+        let count = draw::entry(&COUNTS, 2 * kind + 1);
+        line(
+            packed::part(&NAMES, 32 * kind, draw::entry(&COUNTS, 2 * kind)),
+            count,
+        );
+        wrong = number::plus(wrong, many(kind, count));
+        kind += 1;
+    }
+    line(b"disagreements ", wrong);
 }

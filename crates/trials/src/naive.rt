@@ -1,26 +1,26 @@
-// A naive search, bit by bit, over texts and patterns that have a byte for each bit: the written rules of document 01.
-use crate::cells::agree8;
-use crate::cells::get8;
-use crate::cells::put32_if;
-use crate::number::least_of;
+// A naive search, bit by bit, and the table of refusals: the written rules of document 01. The pattern lies at the front of
+// a buffer and the text from TEXT on.
+use crate::call::Call;
+use crate::cells::get32;
+use crate::number::ceiling;
 use crate::number::minus;
 use crate::number::plus;
 use crate::number::small;
-use search::Method;
+use crate::packed::TEXT_BIT;
+use crate::packed::agree;
+use crate::packed::bit;
 
-// What a run comes to. How it stopped: 0 done, 1 full, 2 spent.
+// What a call comes to: the number of its refusal, or 0; steps, occurrences written and the mark; and how it stopped: 0
+// done, 1 full, 2 spent.
 pub(crate) struct Run {
+    pub refusal: usize,
     pub steps: usize,
     pub hits: usize,
     pub mark: usize,
-    pub stop: u8,
-}
-
-// What a step wrote, and the place that found no cell.
-pub(crate) struct Found {
-    pub hits: usize,
-    pub full: bool,
-    pub at: usize,
+    pub stop: usize,
+    // The naive search's own: where its step ends, and whether the list that it was shown holds what is to be written.
+    pub next: usize,
+    pub good: bool,
 }
 
 // The number of places.
@@ -28,22 +28,51 @@ pub(crate) fn places(n: usize, m: usize) -> usize {
     if m <= n { plus(minus(n, m), 1) } else { 0 }
 }
 
-// Whether the pattern, moved by d, shows the eight bits of t from p on: H's condition.
-fn meets(t: &[u8], p: usize, w: &[u8], m: usize, d: usize) -> bool {
-    if plus(d, 8) <= m {
-        agree8(w, minus(m, plus(d, 8)), t, p, 8)
-    } else {
-        // the first bits of the value lie before the pattern
-        let before = minus(plus(d, 8), m);
-        agree8(w, 0, t, plus(p, before), minus(8, before))
-    }
+// The shortest pattern that a method takes.
+const SHORTEST: [usize; 4] = [1, 8, 15, 1];
+
+pub(crate) fn shortest(way: usize) -> usize {
+    SHORTEST[way % 4]
 }
 
-// The least d from `first` to m that meets the condition for the eight bits of t from p on.
-pub(crate) fn least(t: &[u8], p: usize, w: &[u8], m: usize, first: usize) -> usize {
+// The first row of the table of refusals whose condition holds, or 0.
+pub(crate) fn refusal(c: Call) -> usize {
+    if 1073741824 < c.n {
+        return 1;
+    }
+    if c.text < ceiling(c.n) {
+        return 2;
+    }
+    if c.m == 0 {
+        return 3;
+    }
+    if 2048 < c.m {
+        return 3;
+    }
+    if c.word < ceiling(c.m) {
+        return 4;
+    }
+    if c.m < shortest(c.way) {
+        return 5;
+    }
+    if places(c.n, c.m) < c.mark {
+        return 6;
+    }
+    if c.scratch < 4224 { 7 } else { 0 }
+}
+
+// H's condition: whether the pattern, moved by d, shows the eight bits from p on. The first bits of the value may lie
+// before the pattern.
+fn meets(s: &[u8], m: usize, p: usize, d: usize) -> bool {
+    let before = minus(plus(d, 8), m);
+    agree(s, minus(m, plus(d, 8)), plus(p, before), minus(8, before))
+}
+
+// The least d from `first` to m that meets it.
+pub(crate) fn least(s: &[u8], m: usize, p: usize, first: usize) -> usize {
     let mut d = first;
     while d < m {
-        if meets(t, p, w, m, d) {
+        if meets(s, m, p, d) {
             return d;
         }
         d += 1;
@@ -51,11 +80,11 @@ pub(crate) fn least(t: &[u8], p: usize, w: &[u8], m: usize, first: usize) -> usi
     m
 }
 
-// One more than the greatest index of the bit c in the pattern, or 0.
-fn last_index(w: &[u8], m: usize, c: u8) -> usize {
+// One more than the greatest index of the bit b in the pattern, or 0.
+fn last_index(s: &[u8], m: usize, b: u8) -> usize {
     let mut k = m;
     while 0 < k {
-        if get8(w, k - 1) == c {
+        if bit(s, k - 1) == b {
             return k;
         }
         k -= 1;
@@ -63,155 +92,86 @@ fn last_index(w: &[u8], m: usize, c: u8) -> usize {
     0
 }
 
-// Bit number of the last whole byte inside place s.
-fn last_byte(s: usize, m: usize) -> usize {
-    minus(plus(s, m) / 8 * 8, 8)
-}
-
-// The mark behind the places that the step at s looks at.
-fn looked(method: Method, t: &[u8], w: &[u8], m: usize, s: usize) -> usize {
-    match method {
-        Method::Plain => plus(s, 1),
-        Method::Hash => if least(t, minus(plus(s, m), 8), w, m, 0) == 0 {
-            plus(s, 1)
-        } else {
-            s
-        },
-        Method::Skip => plus(last_byte(s, m), 1),
-        Method::Wide => plus(s, 64),
-    }
-}
-
-// The next mark, not yet cut down to the number of places.
-fn next(method: Method, t: &[u8], n: usize, w: &[u8], m: usize, s: usize) -> usize {
-    match method {
-        Method::Plain => plus(s, 1),
-        Method::Hash => next_hash(t, w, m, s),
-        Method::Skip => plus(last_byte(s, m), 1),
-        Method::Wide => next_wide(t, n, w, m, s),
-    }
-}
-
-fn next_hash(t: &[u8], w: &[u8], m: usize, s: usize) -> usize {
-    let p = minus(plus(s, m), 8);
-    let move0 = least(t, p, w, m, 0);
-    if 0 < move0 {
-        plus(s, move0)
+fn next_hash(s: &[u8], m: usize, at: usize) -> usize {
+    let p = minus(plus(plus(TEXT_BIT, at), m), 8);
+    let d = least(s, m, p, 0);
+    if 0 < d {
+        plus(at, d)
     } else {
-        plus(s, least(t, p, w, m, 1))
+        plus(at, least(s, m, p, 1))
     }
 }
 
-fn next_wide(t: &[u8], n: usize, w: &[u8], m: usize, s: usize) -> usize {
-    let behind = plus(plus(s, m), 63);
-    if n <= behind {
+fn next_wide(s: &[u8], n: usize, m: usize, at: usize) -> usize {
+    // s + ws
+    let after = plus(plus(at, m), 63);
+    if n <= after {
         return n;
     }
     // s + ws − k, or s + ws + 1
-    minus(plus(behind, 1), last_index(w, m, get8(t, behind)))
+    minus(
+        plus(after, 1),
+        last_index(s, m, bit(s, plus(TEXT_BIT, after))),
+    )
 }
 
-// Whether the step at s finds the place a: by the method's own test.
-fn finds(method: Method, t: &[u8], n: usize, w: &[u8], m: usize, s: usize, a: usize) -> bool {
-    match method {
-        Method::Plain => agree8(t, a, w, 0, m),
-        Method::Hash => agree8(t, a, w, 0, m),
-        Method::Skip => finds_skip(t, w, m, s, a),
-        Method::Wide => agree8(t, a, w, 0, least_of(m, minus(n, a))),
+// The method's next mark, not cut down to the number of places.
+fn next_mark(c: Call, s: &[u8], at: usize) -> usize {
+    let way = c.way;
+    match way {
+        0 => plus(at, 1),
+        1 => next_hash(s, c.m, at),
+        2 => plus(minus(plus(at, c.m) / 8 * 8, 8), 1),
+        _ => next_wide(s, c.n, c.m, at),
     }
 }
 
-fn finds_skip(t: &[u8], w: &[u8], m: usize, s: usize, a: usize) -> bool {
-    let b = last_byte(s, m);
-    if agree8(w, minus(b, a), t, b, 8) {
-        agree8(t, a, w, 0, m)
-    } else {
-        false
+// The place `at` is decided, unless the call stopped before. A step begins where the last one ends.
+fn decided(mut run: Run, c: Call, s: &[u8], list: &[u32], at: usize) -> Run {
+    if 0 < run.stop {
+        return run;
     }
-}
-
-fn one_if(on: bool) -> usize {
-    if on { 1 } else { 0 }
-}
-
-// The places from s to `stop` that the step at s finds go to the next free cells.
-fn step(
-    method: Method,
-    t: &[u8],
-    n: usize,
-    w: &[u8],
-    m: usize,
-    s: usize,
-    stop: usize,
-    had: usize,
-    cells: usize,
-    out: &mut [u32],
-) -> Found {
-    let mut a = s;
-    let mut hits = had;
-    while a < stop {
-        let found = finds(method, t, n, w, m, s, a);
-        if found && cells <= hits {
-            return Found {
-                hits: hits,
-                full: true,
-                at: a,
-            };
+    if at == run.next {
+        if run.steps == c.budget {
+            run.stop = 2;
+            return run;
         }
-        put32_if(found, out, hits, small(a));
-        hits = plus(hits, one_if(found));
-        a += 1;
+        run.steps = plus(run.steps, 1);
+        run.next = next_mark(c, s, at);
     }
-    Found {
-        hits: hits,
-        full: false,
-        at: a,
+    if agree(s, plus(TEXT_BIT, at), 0, c.m) {
+        if run.hits == c.room {
+            run.stop = 1;
+            return run;
+        }
+        run.good = run.good & (get32(list, run.hits) == small(at));
+        run.hits = plus(run.hits, 1);
     }
+    run.mark = plus(at, 1);
+    run
 }
 
-// The steps of a call.
-pub(crate) fn search(
-    method: Method,
-    t: &[u8],
-    n: usize,
-    w: &[u8],
-    m: usize,
-    from: usize,
-    budget: usize,
-    cells: usize,
-    out: &mut [u32],
-) -> Run {
-    let end = places(n, m);
-    let mut mark = from;
-    let mut hits: usize = 0;
-    let mut steps: usize = 0;
-    while steps < budget {
-        if end <= mark {
-            return Run {
-                steps: steps,
-                hits: hits,
-                mark: mark,
-                stop: 0,
-            };
-        }
-        let stop = least_of(looked(method, t, w, m, mark), end);
-        let got = step(method, t, n, w, m, mark, stop, hits, cells, out);
-        steps += 1;
-        hits = got.hits;
-        if got.full {
-            return Run {
-                steps: steps,
-                hits: hits,
-                mark: got.at,
-                stop: 1,
-            };
-        }
-        mark = least_of(next(method, t, n, w, m, mark), end);
+// What a call is to come to, and whether the list holds what is to be written: every occurrence from the mark on to the
+// new mark, by the definition.
+pub(crate) fn search(c: Call, s: &[u8], list: &[u32]) -> Run {
+    let why = refusal(c);
+    let mut run = Run {
+        refusal: why,
+        steps: 0,
+        hits: 0,
+        mark: c.mark,
+        stop: 0,
+        next: c.mark,
+        good: true,
+    };
+    if 0 < why {
+        return run;
     }
-    Run {
-        steps: steps,
-        hits: hits,
-        mark: mark,
-        stop: if mark == end { 0 } else { 2 },
+    let end = places(c.n, c.m);
+    let mut at = c.mark;
+    while at < end {
+        run = decided(run, c, s, list, at);
+        at += 1;
     }
+    run
 }

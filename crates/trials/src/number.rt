@@ -16,12 +16,9 @@ pub(crate) fn least_of(a: usize, b: usize) -> usize
     if a < b { a } else { b }
 }
 
-pub(crate) fn wide(x: usize) -> u64 {
-    x as u64
-}
-
-pub(crate) fn index(x: u32) -> usize {
-    x as usize
+// The bytes that so many bits need.
+pub(crate) fn ceiling(bits: usize) -> usize {
+    plus(bits, 7) / 8
 }
 
 pub(crate) fn small(x: usize) -> u32 {
@@ -30,8 +27,4 @@ pub(crate) fn small(x: usize) -> u32 {
 
 pub(crate) fn byte(x: usize) -> u8 {
     (x % 256) as u8
-}
-
-pub(crate) fn of_byte(x: u8) -> usize {
-    x as usize
 }

@@ -6,13 +6,10 @@ use Rattle.trials.proofs.many.Statement.{statement}
 use Rattle.trials.proofs.many.Tie as tie
 
 abbrev Inv-loop : tie.InvT-loop
-Inv-loop kind count tally₀ x₀ i₀ tally x i = Unit
+Inv-loop kind count wrong₀ x₀ i₀ wrong x i = Unit
 
 abbrev μ-loop : tie.MeasureT-loop
-μ-loop kind count tally₀ x₀ i₀ tally x i = count - i
-
-none-requires : tie.Need-none-requires Inv-loop μ-loop
-none-requires c κs = search needs
+μ-loop kind count wrong₀ x₀ i₀ wrong x i = count - i
 
 add-x : tie.Need-add-x Inv-loop μ-loop
 add-x c = search needs
@@ -26,8 +23,11 @@ next-requires c κs = search needs
 one-requires : tie.Need-one-requires Inv-loop μ-loop
 one-requires c κs = search needs
 
-with-requires : tie.Need-with-requires Inv-loop μ-loop
-with-requires c κs = search needs
+cast-plus : tie.Need-cast-plus Inv-loop μ-loop
+cast-plus c = search needs
+
+plus-requires : tie.Need-plus-requires Inv-loop μ-loop
+plus-requires c κs = search needs
 
 add-i : tie.Need-add-i Inv-loop μ-loop
 add-i c = search needs
@@ -47,12 +47,12 @@ many-spec =
     (tie.spec
     Inv-loop
     μ-loop
-    none-requires
     add-x
     loop-holds
     next-requires
     one-requires
-    with-requires
+    cast-plus
+    plus-requires
     add-i
     loop-less
     loop-again

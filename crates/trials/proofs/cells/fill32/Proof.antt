@@ -8,22 +8,25 @@ use Rattle.trials.proofs.cells.fill32.Statement.{statement}
 use Rattle.trials.proofs.cells.fill32.Tie as tie
 
 abbrev Inv-loop : tie.InvT-loop
-Inv-loop s₀ seed x₀ i₀ s x i = length s ≡ length s₀
+Inv-loop s₀ x i₀ s i = length s ≡ length s₀
 
 abbrev μ-loop : tie.MeasureT-loop
-μ-loop s₀ seed x₀ i₀ s x i = length s₀ - i
+μ-loop s₀ x i₀ s i = length s₀ - i
 
 loop-holds : tie.Need-loop-holds Inv-loop μ-loop
 loop-holds c = search needs
 
-next-requires : tie.Need-next-requires Inv-loop μ-loop
-next-requires c κs = search needs
+content-requires : tie.Need-content-requires Inv-loop μ-loop
+content-requires c κs = search needs
 
 small-requires : tie.Need-small-requires Inv-loop μ-loop
 small-requires c κs = search needs
 
-put32-requires : tie.Need-put32-requires Inv-loop μ-loop
-put32-requires c κs = search needs
+mul-s : tie.Need-mul-s Inv-loop μ-loop
+mul-s c = search needs
+
+slice-write-s : tie.Need-slice-write-s Inv-loop μ-loop
+slice-write-s c = search needs
 
 add-i : tie.Need-add-i Inv-loop μ-loop
 add-i c = search needs
@@ -47,9 +50,10 @@ fill32-spec =
     Inv-loop
     μ-loop
     loop-holds
-    next-requires
+    content-requires
     small-requires
-    put32-requires
+    mul-s
+    slice-write-s
     add-i
     loop-less
     loop-again

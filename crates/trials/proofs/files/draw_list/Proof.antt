@@ -8,13 +8,13 @@ use Rattle.trials.proofs.files.draw_list.Statement.{statement}
 use Rattle.trials.proofs.files.draw_list.Tie as tie
 
 abbrev Inv-loop : tie.InvT-loop
-Inv-loop list₀ seed x₀ p₀ i₀ list x p i = length list ≡ length list₀
+Inv-loop list₀ x p₀ i₀ t6 list p i = length list ≡ length list₀
 
 abbrev μ-loop : tie.MeasureT-loop
-μ-loop list₀ seed x₀ p₀ i₀ list x p i = length list₀ - i
+μ-loop list₀ x p₀ i₀ t6 list p i = length list₀ - i
 
-below-requires : tie.Need-below-requires Inv-loop μ-loop
-below-requires c κs = search needs
+draw-requires : tie.Need-draw-requires Inv-loop μ-loop
+draw-requires c κs = search needs
 
 loop-holds : tie.Need-loop-holds Inv-loop μ-loop
 loop-holds c = search needs
@@ -22,17 +22,23 @@ loop-holds c = search needs
 small-requires : tie.Need-small-requires Inv-loop μ-loop
 small-requires c κs = search needs
 
-put32-requires : tie.Need-put32-requires Inv-loop μ-loop
-put32-requires c κs = search needs
+mul-list : tie.Need-mul-list Inv-loop μ-loop
+mul-list c = search needs
 
-next-requires : tie.Need-next-requires Inv-loop μ-loop
-next-requires c κs = search needs
+slice-write-list : tie.Need-slice-write-list Inv-loop μ-loop
+slice-write-list c = search needs
+
+slice-aggregate-choose : tie.Need-slice-aggregate-choose Inv-loop μ-loop
+slice-aggregate-choose c = search needs
+
+draw-requires-2 : tie.Need-draw-requires-2 Inv-loop μ-loop
+draw-requires-2 c κs = search needs
+
+choose-requires : tie.Need-choose-requires Inv-loop μ-loop
+choose-requires c κs = search needs
 
 plus-requires : tie.Need-plus-requires Inv-loop μ-loop
 plus-requires c κs = search needs
-
-distance-requires : tie.Need-distance-requires Inv-loop μ-loop
-distance-requires c κs = search needs
 
 plus-requires-2 : tie.Need-plus-requires-2 Inv-loop μ-loop
 plus-requires-2 c κs = search needs
@@ -58,13 +64,15 @@ draw-list-spec =
     (tie.spec
     Inv-loop
     μ-loop
-    below-requires
+    draw-requires
     loop-holds
     small-requires
-    put32-requires
-    next-requires
+    mul-list
+    slice-write-list
+    slice-aggregate-choose
+    draw-requires-2
+    choose-requires
     plus-requires
-    distance-requires
     plus-requires-2
     add-i
     loop-less

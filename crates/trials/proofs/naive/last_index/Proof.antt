@@ -5,19 +5,19 @@ use Rattle.trials.proofs.naive.last_index.Statement.{statement}
 use Rattle.trials.proofs.naive.last_index.Tie as tie
 
 abbrev Inv-loop : tie.InvT-loop
-Inv-loop w m c k₀ k = Unit
+Inv-loop s m b k₀ k = Unit
 
 abbrev μ-loop : tie.MeasureT-loop
-μ-loop w m c k₀ k = k
+μ-loop s m b k₀ k = k
 
 loop-holds : tie.Need-loop-holds Inv-loop μ-loop
 loop-holds c = search needs
 
-sub-get8 : tie.Need-sub-get8 Inv-loop μ-loop
-sub-get8 c = search needs
+sub-bit : tie.Need-sub-bit Inv-loop μ-loop
+sub-bit c = search needs
 
-get8-requires : tie.Need-get8-requires Inv-loop μ-loop
-get8-requires c κs = search needs
+bit-requires : tie.Need-bit-requires Inv-loop μ-loop
+bit-requires c κs = search needs
 
 returns : tie.Need-returns Inv-loop μ-loop
 returns c = search needs
@@ -41,8 +41,8 @@ last-index-spec =
     Inv-loop
     μ-loop
     loop-holds
-    sub-get8
-    get8-requires
+    sub-bit
+    bit-requires
     returns
     sub-k
     loop-less

@@ -6,10 +6,10 @@ use Rattle.trials.proofs.naive.least.Statement.{statement}
 use Rattle.trials.proofs.naive.least.Tie as tie
 
 abbrev Inv-loop : tie.InvT-loop
-Inv-loop t p w m first d₀ d = Unit
+Inv-loop s m p first d₀ d = Unit
 
 abbrev μ-loop : tie.MeasureT-loop
-μ-loop t p w m first d₀ d = m - d
+μ-loop s m p first d₀ d = m - d
 
 loop-holds : tie.Need-loop-holds Inv-loop μ-loop
 loop-holds c = search needs

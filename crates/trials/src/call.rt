@@ -1,0 +1,116 @@
+// One call of the search beside the naive one.
+use crate::cells;
+use crate::naive;
+use crate::naive::Run;
+use crate::number::least_of;
+use crate::number::small;
+use crate::packed::TEXT;
+use crate::packed::part;
+use bits::Place;
+use search::Answer;
+use search::Mark;
+use search::Method;
+use search::Outcome;
+use search::Refusal;
+use search::Stop;
+
+// Every step that there is.
+pub(crate) const ALL: usize = 4294967295;
+
+// What a call is given: n bits of text in `text` bytes, m bits of pattern in `word` bytes, the method by its number, mark
+// and budget, and how many cells of the list and of the scratch are lent.
+pub(crate) struct Call {
+    pub n: usize,
+    pub text: usize,
+    pub m: usize,
+    pub word: usize,
+    pub way: usize,
+    pub mark: usize,
+    pub budget: usize,
+    pub room: usize,
+    pub scratch: usize,
+}
+
+fn method_of(way: usize) -> Method {
+    match way {
+        0 => Method::Plain,
+        1 => Method::Hash,
+        2 => Method::Skip,
+        _ => Method::Wide,
+    }
+}
+
+pub(crate) fn number_of(why: Refusal) -> usize {
+    match why {
+        Refusal::TextTooLong => 1,
+        Refusal::TextBytesMissing => 2,
+        Refusal::PatternLength => 3,
+        Refusal::PatternBytesMissing => 4,
+        Refusal::PatternTooShort => 5,
+        Refusal::MarkBeyondPlaces => 6,
+        Refusal::ScratchTooShort => 7,
+    }
+}
+
+// The search's call.
+fn made(c: Call, s: &[u8], list: &mut [u32], scratch: &mut [u64]) -> Outcome {
+    let room = least_of(c.room, list.len());
+    let k = least_of(c.scratch, scratch.len());
+    let at = Mark {
+        at: Place(small(c.mark)),
+    };
+    at.search(
+        part(s, TEXT, c.text),
+        c.n as u64,
+        part(s, 0, c.word),
+        c.m as u64,
+        method_of(c.way),
+        small(c.budget),
+        &mut list[0..room],
+        &mut scratch[0..k],
+    )
+}
+
+// Whether a call stopped as it is to: a full list carries the mark's place.
+fn stopped(stop: Stop, want: Run) -> bool {
+    match stop {
+        Stop::Done => want.stop == 0,
+        Stop::Full(p) => (want.stop == 1) & (p.0 == small(want.mark)),
+        Stop::Spent => want.stop == 2,
+    }
+}
+
+// Whether the answer tells what the call is to come to.
+fn tells(a: Answer, want: Run) -> bool {
+    let mark = a.mark;
+    let place = mark.at;
+    let stop = a.stop;
+    (a.steps == small(want.steps))
+        & (a.hits == small(want.hits))
+        & (place.0 == small(want.mark))
+        & stopped(stop, want)
+}
+
+fn told(outcome: Outcome, want: Run) -> bool {
+    match outcome {
+        Outcome::Accepted(a) => (want.refusal == 0) & tells(a, want),
+        Outcome::Refused(why) => want.refusal == number_of(why),
+    }
+}
+
+// What a call is to come to, and whether it did. The cells of the list that are not written stay; so do those of the
+// scratch after the first 4,224, and all of it where the call is refused.
+fn verdict(c: Call, x: usize, outcome: Outcome, s: &[u8], list: &[u32], scratch: &[u64]) -> Run {
+    let mut run = naive::search(c, s, list);
+    let free = if 0 < run.refusal { 0 } else { 4224 };
+    let good = run.good & told(outcome, run);
+    run.good = good & cells::stay32(list, run.hits, x) & cells::stay64(scratch, free, x);
+    run
+}
+
+// The call of both, on a list of known content; the scratch after the first 4,224 cells has one too.
+pub(crate) fn judged(c: Call, x: usize, s: &[u8], list: &mut [u32], scratch: &mut [u64]) -> Run {
+    cells::fill32(list, x);
+    let outcome = made(c, s, list, scratch);
+    verdict(c, x, outcome, s, list, scratch)
+}

@@ -1,0 +1,92 @@
+// Eight bits by themselves and H by itself, with their refusals. Both have the rows of the table that a search has, so
+// that the search's own check serves, of a call whose other conditions do not hold.
+use crate::call::Call;
+use crate::call::number_of;
+use crate::draw::choose;
+use crate::draw::draw;
+use crate::drawn::pattern_length;
+use crate::drawn::repeat;
+use crate::naive;
+use crate::number::ceiling;
+use crate::number::least_of;
+use crate::number::minus;
+use crate::number::plus;
+use crate::number::small;
+use crate::packed;
+use crate::packed::TEXT;
+use crate::packed::TEXT_BIT;
+use bits::Place;
+use bits::eight;
+use bits::eight::Eight;
+use search::hash_value;
+use search::hash_value::HashAnswer;
+
+fn eight_number(why: eight::Refusal) -> usize {
+    match why {
+        eight::Refusal::TooLong => 1,
+        eight::Refusal::FewBytes => 2,
+        eight::Refusal::PastEnd => 6,
+    }
+}
+
+// Bit counts about the greatest one, once in 50, or small.
+const COUNTS: [usize; 4] = [1073741820, 9, 0, 101];
+
+// Eight bits from p on lie inside where a pattern of eight bits may have the mark p + 1.
+pub(crate) fn eight_bits(x: usize, s: &mut [u8; 300]) -> bool {
+    let n = choose(&COUNTS, draw(x, 0, 50), x, 1);
+    let short = least_of(n, 100);
+    let p = draw(x, 2, plus(short, 3));
+    let a = plus(ceiling(short), draw(x, 3, 3));
+    let why = naive::refusal(Call {
+        n: n,
+        text: a,
+        m: 8,
+        word: 1,
+        way: 0,
+        mark: plus(p, 1),
+        budget: 0,
+        room: 0,
+        scratch: 4224,
+    });
+    let got = eight::eight_bits(packed::part(s, TEXT, a), n as u64, Place(small(p)));
+    match got {
+        Eight::Bits(b) => {
+            packed::put8(s, 0, b);
+            return (why == 0) & packed::agree(s, 0, plus(TEXT_BIT, p), 8);
+        }
+        Eight::Refused(r) => {
+            return why == eight_number(r);
+        }
+    }
+}
+
+// H of the m bits of a pattern in b bytes at the front, and the value at the text's.
+pub(crate) fn hash(s: &[u8], m: usize, b: usize) -> bool {
+    let why = naive::refusal(Call {
+        n: 0,
+        text: 0,
+        m: m,
+        word: b,
+        way: 1,
+        mark: 0,
+        budget: 0,
+        room: 0,
+        scratch: 4224,
+    });
+    let got = hash_value::hash_value(packed::part(s, 0, b), m as u64, packed::get8(s, TEXT));
+    match got {
+        HashAnswer::Value(d) => (why == 0) & (d == small(naive::least(s, m, TEXT_BIT, 0))),
+        HashAnswer::Refused(r) => why == number_of(r),
+    }
+}
+
+// The value is drawn, or a part of the pattern.
+pub(crate) fn drawn_hash(x: usize, s: &mut [u8; 813]) -> bool {
+    packed::fill(s, x);
+    let m = minus(plus(pattern_length(x), draw(x, 2, 4)), 1);
+    repeat(s, 0, m, draw(x, 3, 12));
+    repeat(s, TEXT_BIT, 8, draw(x, 4, 3));
+    packed::copy(s, draw(x, 5, plus(m, 1)), TEXT_BIT, draw(x, 6, 2) % 2 * 8);
+    hash(s, m, minus(plus(ceiling(m), draw(x, 7, 4)), 1))
+}
