@@ -19,19 +19,19 @@ enum-known-outcome-2 : tie.Need-enum-known-outcome-2
 enum-known-outcome-2 c = search needs
 
 cast-answer : tie.Need-cast-answer
-cast-answer c = search needs
+cast-answer c = omega arith
 
 slice-write-answer : tie.Need-slice-write-answer
-slice-write-answer c = search needs
+slice-write-answer c = omega arith
 
 cast-answer-2 : tie.Need-cast-answer-2
-cast-answer-2 c = search needs
+cast-answer-2 c = omega arith
 
 slice-write-answer-2 : tie.Need-slice-write-answer-2
 slice-write-answer-2 c = rw length-set (omega arith)
 
 cast-answer-3 : tie.Need-cast-answer-3
-cast-answer-3 c = search needs
+cast-answer-3 c = omega arith
 
 slice-write-answer-3 : tie.Need-slice-write-answer-3
 slice-write-answer-3 c = simp length-set (omega arith)
@@ -40,13 +40,13 @@ stop-of-requires : tie.Need-stop-of-requires
 stop-of-requires c κs = search needs
 
 slice-write-answer-4 : tie.Need-slice-write-answer-4
-slice-write-answer-4 c = search needs
+slice-write-answer-4 c = simp length-set (omega arith)
 
 returns : tie.Need-returns
-returns c = search needs
+returns c = rw (c .before .before .outcome .given .1) (record { result-is = c .number-of .ensures; answer-is = refl })
 
 same-length : tie.Need-same-length
-same-length c = search needs
+same-length c = simp length-set refl
 
 returns-2 : tie.Need-returns-2
 returns-2 c =
