@@ -131,14 +131,3 @@ pub fn word_at_byte(bytes: &[u8], b: ByteNo) -> u64
         word_at(bytes, b.place())
     }
 }
-
-// The k bits from p on, left-aligned in 64.
-pub fn bits_at(bytes: &[u8], p: Place, k: u32) -> u64
-    requires { ⌜ k ≤ 64 ⌝ }
-    ensures { λ r. ⌜ r ≡ bitsAt (now (bytes .entry)) (p .0) k * 2 ^ (64 - k) ⌝ }
-{
-    if k == 0 {
-        return 0;
-    }
-    (word_at(bytes, p) >> (64 - k)) << (64 - k)
-}
