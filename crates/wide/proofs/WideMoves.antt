@@ -84,18 +84,18 @@ module _ (w : Pattern) (c : ℕ) where
   pub down-start : (m : ℕ) → w .count ≡ m → Down m 64
   down-start m e = record { above = λ p l u. absurd (omega arith); here = λ l. absurd (omega arith) }
 
-  pub down-end : (k i : ℕ) → Down k i → k ≤ w .count → i ≤ 64 → (ltb 0 k && eqb i 64) ≡ false → Move w c (64 + w .count - k)
-  down-end k i d inside top e = go (decLe 1 k)
+  pub down-end : (k i r : ℕ) → Down k i → k ≤ w .count → i ≤ 64 → (ltb 0 k && eqb i 64) ≡ false → r + k ≡ 64 + w .count → Move w c r
+  down-end k i r d inside top e sum = go (decLe 1 k)
     where
-      go : Dec (1 ≤ k) → Move w c (64 + w .count - k)
+      go : Dec (1 ≤ k) → Move w c r
       go (no l) =
-          let size : 64 + w .count - k ≡ 64 + w .count = omega arith in
+          let size : r ≡ 64 + w .count = omega arith in
           rw size (move-none (λ p u. d .above p (omega arith) u))
       go (yes l) =
           let off : eqb i 64 ≡ false = rw (lt-ltb 0 k l) at e in
           let other : i ≡ 64 → ⊥ = eqb-false i 64 off in
-          let back : suc (k - 1) ≡ k = omega arith in
-          rw back at (move-some (k - 1)
+          let size : r ≡ 64 + w .count - suc (k - 1) = omega arith in
+          rw size (move-some (k - 1)
           (record {
             below = omega arith;
             passes = d .here (omega arith) l;

@@ -1,6 +1,5 @@
 -- `wide::advance` meets its contract. The loop's invariant: the steps made, with their list.
 -- Assumes nothing.
-use borrow.Author.Needs.{needs}
 use mathlib.Core.Path.{_≡_, refl}
 use mathlib.Core.Bool.{Bool, true, false, not, _&&_}
 use Prim.Native.Nat.{ℕ, _+_, _-_, _<_}
@@ -55,10 +54,10 @@ add-end : tie.Need-add-end Inv-loop μ-loop
 add-end c = let ready = c .before .before .before .before .pre .0 in omega (arith, ready .inside, ready .few-bits)
 
 move-of-requires : tie.Need-move-of-requires Inv-loop μ-loop
-move-of-requires c κs = search needs
+move-of-requires c κs = let ready = c .before .before .before .before .pre .0 in omega (arith, ready .pattern .few-bits, ready .room)
 
 move-of-requires-2 : tie.Need-move-of-requires-2 Inv-loop μ-loop
-move-of-requires-2 c κs = search needs
+move-of-requires-2 c κs = let ready = c .before .before .before .before .before .pre .0 in omega (arith, ready .pattern .few-bits, ready .room)
 
 loop-holds : tie.Need-loop-holds Inv-loop μ-loop
 loop-holds c =

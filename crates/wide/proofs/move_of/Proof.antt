@@ -86,7 +86,7 @@ returns c =
     let l = c .before .loop in
     let a = c .before .before .args in
     record {
-      move = λ w e t. rw (← e) (down-end w (a .c) (l .k) (l .i) (l .inv .2 w e t) (omega arith) (l .inv .1) (c .loop-test .left));
+      move = λ w e t. down-end w (a .c) (l .k) (l .i) _ (l .inv .2 w e t) (omega arith) (l .inv .1) (c .loop-test .left) (omega arith);
       short = omega arith;
     }
 

@@ -1,6 +1,5 @@
 -- `wide::step` meets its contract: the flags of its places, settled.
 -- Assumes nothing.
-use borrow.Author.Needs.{needs}
 use mathlib.Core.Path.{refl}
 use native.Mathlib.Omega.{arith}
 use denote.Ref.{now}
@@ -9,10 +8,10 @@ use Rattle.wide.proofs.step.Statement.{statement}
 use Rattle.wide.proofs.step.Tie as tie
 
 move-of-requires : tie.Need-move-of-requires
-move-of-requires c κs = search needs
+move-of-requires c κs = let ready = c .before .before .before .before .pre .0 in omega (arith, ready .pattern .few-bits, ready .room)
 
 move-of-requires-2 : tie.Need-move-of-requires-2
-move-of-requires-2 c κs = search needs
+move-of-requires-2 c κs = let ready = c .before .before .before .before .before .pre .0 in omega (arith, ready .pattern .few-bits, ready .room)
 
 next-mark-requires : tie.Need-next-mark-requires
 next-mark-requires c κs =
@@ -37,10 +36,10 @@ settle-requires c κs =
     )
 
 same-length : tie.Need-same-length
-same-length c = search needs
+same-length c = c .before .before .settle .kept .1 .1 .1 .1 .1 .1 .1 .1 .0
 
 returns : tie.Need-returns
-returns c = search needs
+returns c = c .before .before .settle .ensures
 
 pub step-spec : {M : Type 1} → statement M
 step-spec =
