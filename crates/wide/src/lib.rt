@@ -166,14 +166,11 @@ fn scan(text: &[u8], n: u32, m: u32, cells: &[u64], s: Place) -> u64
     }
     let mut f = ALL;
     let mut q = 56u32;
-    while q + 16 <= m + 63 {
+    while (q + 16 <= m + 63) & (1 < u64::count_ones(f)) {
         f = keep8(text, cells, s, q, f);
         f = keep8(text, cells, s, q + 8, f);
         if f == 0 {
             return 0;
-        }
-        if u64::count_ones(f) < 2 {
-            return f;
         }
         q += 16;
     }
@@ -293,23 +290,23 @@ pub fn advance(
     let end = n - m + 1;
     let zero = move_of(m, cells, 0);
     let one = move_of(m, cells, 1);
-    let mut at = s;
     let mut steps = 0u32;
-    let mut hits = had;
-    let mut full = false;
-    while (at.0 < end) & (steps < budget) & !full {
-        let to = next_mark(text, n, m, zero, one, at);
-        let flags = scan(text, n, m, cells, at);
-        let found = settle(text, n, word, m, h, at, to, flags, list, hits);
-        at = found.at;
-        hits = found.hits;
-        full = found.full;
+    let mut found = Found {
+        at: s,
+        hits: had,
+        full: false,
+    };
+    while (found.at.0 < end) & (steps < budget) & !found.full {
+        let to = next_mark(text, n, m, zero, one, found.at);
+        let flags = scan(text, n, m, cells, found.at);
+        found = settle(text, n, word, m, h, found.at, to, flags, list, found.hits);
         steps += 1;
     }
+    let at = found.at;
     Advance {
         at: at,
         steps: steps,
-        hits: hits,
-        full: full,
+        hits: found.hits,
+        full: found.full,
     }
 }

@@ -17,11 +17,11 @@ use Rattle.wide.proofs.advance.Statement.{statement}
 use Rattle.wide.proofs.advance.Tie as tie
 
 abbrev Inv-loop : tie.InvT-loop
-Inv-loop text n word m h cells budget list₀ had end zero one at₀ steps₀ hits₀ full₀ list at steps hits full =
-    Advanced Wide (textOf text n) (patternOf word m) (at₀ .0) budget list₀ had (at .0) steps hits full list
+Inv-loop text n word m h cells budget list₀ had end zero one steps₀ found₀ list steps found =
+    Advanced Wide (textOf text n) (patternOf word m) (found₀ .at .0) budget list₀ had (found .at .0) steps (found .hits) (found .full) list
 
 abbrev μ-loop : tie.MeasureT-loop
-μ-loop text n word m h cells budget list₀ had end zero one at₀ steps₀ hits₀ full₀ list at steps hits full = budget - steps
+μ-loop text n word m h cells budget list₀ had end zero one steps₀ found₀ list steps found = budget - steps
 
 -- the loop's test
 goes : (full : Bool) (at end steps budget : ℕ) → ((ltb at end && ltb steps budget) && not full) ≡ true → (full ≡ false) × (at < end) × (steps < budget)
@@ -33,19 +33,19 @@ goes full at end steps budget e =
     )
 
 -- what the test says
-tested : (c : tie.Then1 Inv-loop μ-loop) → let l = c .before .before .loop in let a = c .before .before .before .before .before .before .before .before .before .args in
-    (l .full ≡ false) × (l .at .0 < a .n - a .m + 1) × (l .steps < a .budget)
+tested : (c : tie.Then1 Inv-loop μ-loop) → let l = c .before .before .before .loop in let a = c .before .before .before .before .before .before .before .before .before .before .args in
+    (l .found .full ≡ false) × (l .found .at .0 < a .n - a .m + 1) × (l .steps < a .budget)
 tested c =
-    let l = c .before .before .loop in
-    let a = c .before .before .before .before .before .before .before .before .before .args in
-    goes (l .full) (l .at .0) (a .n - a .m + 1) (l .steps) (a .budget) (c .if1 .taken)
+    let l = c .before .before .before .loop in
+    let a = c .before .before .before .before .before .before .before .before .before .before .args in
+    goes (l .found .full) (l .found .at .0) (a .n - a .m + 1) (l .steps) (a .budget) (c .if1 .taken)
 
 -- the list is as long as it was
 long : (c : tie.At-loop Inv-loop μ-loop) → length (c .loop .list) ≡ length (now (c .before .before .before .before .before .before .before .args .list))
 long c =
     let l = c .loop in
     let a = c .before .before .before .before .before .before .before .args in
-    writing-length (now (a .list)) (a .had) (l .inv .found) (l .list) (l .hits) (l .inv .writing)
+    writing-length (now (a .list)) (a .had) (l .inv .found) (l .list) (l .found .hits) (l .inv .writing)
 
 sub-end : tie.Need-sub-end Inv-loop μ-loop
 sub-end c = omega (arith, c .before .before .before .before .pre .0 .inside)
@@ -67,48 +67,48 @@ loop-holds c =
 
 next-mark-requires : tie.Need-next-mark-requires Inv-loop μ-loop
 next-mark-requires c κs =
-    let ready = c .before .before .before .before .before .before .before .before .before .pre .0 in
-    omega (arith, tested c, ready .pattern .few-bits, ready .inside, ready .few-bits, c .before .before .before .before .move-of .ensures .short, c .before .before .before .move-of2 .ensures .short)
+    let ready = c .before .before .before .before .before .before .before .before .before .before .pre .0 in
+    omega (arith, tested c, ready .pattern .few-bits, ready .inside, ready .few-bits, c .before .before .before .before .before .move-of .ensures .short, c .before .before .before .before .move-of2 .ensures .short)
 
 scan-requires : tie.Need-scan-requires Inv-loop μ-loop
 scan-requires c κs =
-    let ready = c .before .before .before .before .before .before .before .before .before .before .pre .0 in
+    let ready = c .before .before .before .before .before .before .before .before .before .before .before .pre .0 in
     omega (arith, tested (c .before), ready .pattern .few-bits, ready .room, ready .inside, ready .few-bits, ready .bytes-there)
 
 settle-requires : tie.Need-settle-requires Inv-loop μ-loop
 settle-requires c κs =
-    let s = c .before .before .before .before .before .before .before .before .before .before .before .before in
+    let s = c .before .before .before .before .before .before .before .before .before .before .before .before .before in
     let ready = s .pre .0 in
     let a = s .args in
-    let l = c .before .before .before .before .before .loop in
+    let l = c .before .before .before .before .before .before .loop in
     let w = patternOf (now (a .word)) (a .m) in
-    let zero = c .before .before .before .before .before .before .before .move-of .ensures .move w refl (ready .tables) in
-    let one = c .before .before .before .before .before .before .move-of2 .ensures .move w refl (ready .tables) in (
-      omega (arith, tested (c .before .before .before), ready .pattern .some-bits, ready .pattern .few-bits, ready .few-bits, ready .inside, long (c .before .before .before .before .before), l .inv .writing .fits),
+    let zero = c .before .before .before .before .before .before .before .before .move-of .ensures .move w refl (ready .tables) in
+    let one = c .before .before .before .before .before .before .before .move-of2 .ensures .move w refl (ready .tables) in (
+      omega (arith, tested (c .before .before .before), ready .pattern .some-bits, ready .pattern .few-bits, ready .few-bits, ready .inside, long (c .before .before .before .before .before .before), l .inv .writing .fits),
       (s .pre .1 .0, (c .before .scan .ensures .flagged w refl (ready .tables), c .before .before .next-mark .ensures .mark w refl zero one)),
     )
 
 add-steps : tie.Need-add-steps Inv-loop μ-loop
-add-steps c = omega (arith, tested (c .before .before .before .before .before .before .before), c .before .before .before .before .before .before .before .before .before .before .before .before .before .before .before .before .fits .budget)
+add-steps c = omega (arith, tested (c .before .before .before .before .before .before), c .before .before .before .before .before .before .before .before .before .before .before .before .before .before .before .before .fits .budget)
 
 loop-less : tie.Need-loop-less Inv-loop μ-loop
-loop-less c = omega (arith, tested (c .before .before .before .before .before .before .before))
+loop-less c = omega (arith, tested (c .before .before .before .before .before .before))
 
 loop-again : tie.Need-loop-again Inv-loop μ-loop
 loop-again c =
     let s = c .before .before .before .before .before .before .before .before .before .before .before .before .before .before .before .before in
     let a = s .args in
     let l = c .before .before .before .before .before .before .before .before .before .loop in
-    let test = tested (c .before .before .before .before .before .before .before) in
-    let settled = c .before .before .before .settle in
-    advanced-step Wide (textOf (now (a .text)) (a .n)) (patternOf (now (a .word)) (a .m)) (a .s .0) (a .budget) (now (a .list)) (a .had) (l .at .0) (l .steps) (l .hits) (l .list) (s .pre .1 .1 .1)
+    let test = tested (c .before .before .before .before .before .before) in
+    let settled = c .before .before .settle in
+    advanced-step Wide (textOf (now (a .text)) (a .n)) (patternOf (now (a .word)) (a .m)) (a .s .0) (a .budget) (now (a .list)) (a .had) (l .found .at .0) (l .steps) (l .found .hits) (l .list) (s .pre .1 .1 .1)
     (rw (test .0) at (l .inv)) (settled .result .at .0) (settled .result .hits) (settled .result .full) (settled .last .1 .1 .1 .1 .1 .1 .1 .1 .0) (omega (arith, s .pre .0 .inside)) (test .2) (settled .ensures)
 
 same-length : tie.Need-same-length Inv-loop μ-loop
-same-length c = long (c .before .before)
+same-length c = long (c .before .before .before .before)
 
 returns : tie.Need-returns Inv-loop μ-loop
-returns c = c .before .before .loop .inv
+returns c = c .before .before .before .before .loop .inv
 
 pub advance-spec : {M : Type 1} → statement M
 advance-spec =
