@@ -166,11 +166,14 @@ fn scan(text: &[u8], n: u32, m: u32, cells: &[u64], s: Place) -> u64
     }
     let mut f = ALL;
     let mut q = 56u32;
-    while (q + 16 <= m + 63) & (1 < u64::count_ones(f)) {
+    while q + 16 <= m + 63 {
         f = keep8(text, cells, s, q, f);
         f = keep8(text, cells, s, q + 8, f);
         if f == 0 {
             return 0;
+        }
+        if u64::count_ones(f) < 2 {
+            return f;
         }
         q += 16;
     }

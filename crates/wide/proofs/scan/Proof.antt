@@ -3,9 +3,7 @@
 -- Assumes nothing.
 use Prim.Native.Nat.{_+_, _-_, _^_, _≤_, _<_}
 use native.Mathlib.Omega.{arith}
-use borrow.Author.Tests.{leb-true}
 use denote.Ref.{now}
-use Rattle.rules.proofs.Ranges.{and-left}
 use Rattle.matcher.specs.Progress.{textOf}
 use Rattle.wide.specs.Flags.{Leaves}
 use Rattle.wide.proofs.WideFlags.{leaves-same, leaves-more, leaves-keep, scanned-end, scanned-whole}
@@ -18,11 +16,7 @@ Inv-loop text n m cells s at until f₀ q₀ f q = Leaves (textOf text 0) m cell
 abbrev μ-loop : tie.MeasureT-loop
 μ-loop text n m cells s at until f₀ q₀ f q = 4096 - q
 
--- the two bytes lie in the window
-whole : (c : tie.In-loop Inv-loop μ-loop) → c .before .loop .q + 16 ≤ c .before .before .before .before .before .before .args .m + 63
-whole c = leb-true _ _ (and-left _ _ (c .loop-test .taken))
-
--- the flags that they leave
+-- the flags that the two bytes leave
 left : (c : tie.After-keep82 Inv-loop μ-loop)
     → let a = c .before .before .before .before .before .before .before .before .args in
     Leaves (textOf (now (a .text)) 0) (a .m) (now (a .cells)) (a .s .0) 18446744073709551615 (c .keep82 .result)
@@ -30,8 +24,8 @@ left c =
     let a = c .before .before .before .before .before .before .before .before .args in
     let l = c .before .before .before .loop in
     leaves-keep (textOf (now (a .text)) 0) (a .m) (now (a .cells)) (a .s .0) 18446744073709551615 (c .before .keep8 .result) (c .keep82 .result) (l .q + 8)
-    (leaves-keep (textOf (now (a .text)) 0) (a .m) (now (a .cells)) (a .s .0) 18446744073709551615 (l .f) (c .before .keep8 .result) (l .q) (l .inv .0) (c .before .keep8 .ensures) (omega (arith, whole (c .before .before))))
-    (c .keep82 .ensures) (omega (arith, whole (c .before .before)))
+    (leaves-keep (textOf (now (a .text)) 0) (a .m) (now (a .cells)) (a .s .0) 18446744073709551615 (l .f) (c .before .keep8 .result) (l .q) (l .inv .0) (c .before .keep8 .ensures) (omega arith))
+    (c .keep82 .ensures) (omega arith)
 
 add-until : tie.Need-add-until Inv-loop μ-loop
 add-until c = omega arith
@@ -79,18 +73,24 @@ add-loop-2 : tie.Need-add-loop-2 Inv-loop μ-loop
 add-loop-2 c = omega arith
 
 keep8-requires : tie.Need-keep8-requires Inv-loop μ-loop
-keep8-requires c κs = omega (arith, whole c)
+keep8-requires c κs = omega arith
 
 add-keep8 : tie.Need-add-keep8 Inv-loop μ-loop
 add-keep8 c = omega arith
 
 keep8-requires-2 : tie.Need-keep8-requires-2 Inv-loop μ-loop
-keep8-requires-2 c κs = omega (arith, whole (c .before))
+keep8-requires-2 c κs = omega arith
 
 returns-4 : tie.Need-returns-4 Inv-loop μ-loop
 returns-4 c =
     let a = c .before .before .before .before .before .before .before .before .before .args in
     scanned-whole (now (a .text)) (a .n) (a .m) (now (a .cells)) (a .s .0) 0 (omega arith) (omega arith) (rw (c .if4 .taken) at (left (c .before)))
+
+returns-5 : tie.Need-returns-5 Inv-loop μ-loop
+returns-5 c =
+    let a = c .before .before .before .before .before .before .before .before .before .before .args in
+    let keep = c .before .before .keep82 in
+    scanned-whole (now (a .text)) (a .n) (a .m) (now (a .cells)) (a .s .0) (keep .result) (omega arith) (keep .ok) (left (c .before .before))
 
 add-q : tie.Need-add-q Inv-loop μ-loop
 add-q c = omega arith
@@ -99,10 +99,10 @@ loop-less : tie.Need-loop-less Inv-loop μ-loop
 loop-less c = omega arith
 
 loop-again : tie.Need-loop-again Inv-loop μ-loop
-loop-again c = (left (c .before), omega (arith, whole (c .before .before .before)), c .before .keep82 .ok)
+loop-again c = (left (c .before .before), omega arith, c .before .before .keep82 .ok)
 
-returns-5 : tie.Need-returns-5 Inv-loop μ-loop
-returns-5 c =
+returns-6 : tie.Need-returns-6 Inv-loop μ-loop
+returns-6 c =
     let a = c .before .before .before .before .before .before .args in
     let l = c .before .loop in
     scanned-whole (now (a .text)) (a .n) (a .m) (now (a .cells)) (a .s .0) (l .f) (omega arith) (l .inv .2) (l .inv .0)
@@ -129,7 +129,8 @@ scan-spec =
     add-keep8
     keep8-requires-2
     returns-4
+    returns-5
     add-q
     loop-less
     loop-again
-    returns-5)
+    returns-6)
