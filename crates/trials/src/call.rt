@@ -7,7 +7,6 @@ use crate::number::small;
 use crate::packed::TEXT;
 use crate::packed::part;
 use bits::Place;
-use search::Answer;
 use search::Mark;
 use search::Method;
 use search::Outcome;
@@ -71,29 +70,28 @@ fn made(c: Call, s: &[u8], list: &mut [u32], scratch: &mut [u64]) -> Outcome {
     )
 }
 
-// Whether a call stopped as it is to: a full list carries the mark's place.
-fn stopped(stop: Stop, want: Run) -> bool {
+// How a call stopped, and where: a full list carries the mark's place.
+fn stopped(stop: Stop, mark: u32) -> usize {
     match stop {
-        Stop::Done => want.stop == 0,
-        Stop::Full(p) => (want.stop == 1) & (p.0 == small(want.mark)),
-        Stop::Spent => want.stop == 2,
+        Stop::Done => 0,
+        Stop::Full(p) => if p.0 == mark { 1 } else { 3 },
+        Stop::Spent => 2,
     }
 }
 
-// Whether the answer tells what the call is to come to.
-fn tells(a: Answer, want: Run) -> bool {
-    let mark = a.mark;
-    let place = mark.at;
-    let stop = a.stop;
-    (a.steps == small(want.steps))
-        & (a.hits == small(want.hits))
-        & (place.0 == small(want.mark))
-        & stopped(stop, want)
-}
-
+// Whether the outcome tells what the call is to come to.
 fn told(outcome: Outcome, want: Run) -> bool {
     match outcome {
-        Outcome::Accepted(a) => (want.refusal == 0) & tells(a, want),
+        Outcome::Accepted(a) => {
+            let mark = a.mark;
+            let place = mark.at;
+            let stop = a.stop;
+            (want.refusal == 0)
+                & (a.steps == small(want.steps))
+                & (a.hits == small(want.hits))
+                & (place.0 == small(want.mark))
+                & (stopped(stop, place.0) == want.stop)
+        }
         Outcome::Refused(why) => want.refusal == number_of(why),
     }
 }

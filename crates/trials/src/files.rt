@@ -163,68 +163,70 @@ fn draw_list(list: &mut [u32], x: usize) {
     }
 }
 
-// A drawn list of up to 24 positions is spoiled now and then, so that it may not rise: a position is the one before it, or
-// about the limit.
-pub(crate) fn drawn_list(x: usize, s: &mut [u8; 300], list: &mut [u32; 24]) -> bool {
-    draw_list(list, x);
-    let k = draw(x, 0, 25);
+// Spoils a list of k positions now and then, so that it may not rise: a position is the one before it, or about the limit.
+// The other classes write nowhere.
+fn spoil(list: &mut [u32], k: usize, x: usize) {
     let i = draw(x, 1, k);
-    let spoiled = draw(x, 2, 40);
-    let other = if spoiled == 10 {
+    let class = draw(x, 2, 40);
+    let old = get32(list, minus(i, draw(x, 3, 2)));
+    let new = if class == 10 {
         small(plus(1073741822, draw(x, 4, 4)))
     } else {
-        get32(list, minus(i, draw(x, 3, 2)))
+        old
     };
-    if spoiled <= 10 {
-        put32(list, i, other);
-    }
-    let room = if draw(x, 5, 3) == 0 {
-        draw(x, 6, plus(k, 6))
-    } else {
-        FILE
-    };
-    let got = written(cells::part32(list, k), room, x, s);
-    got.good
+    put32(list, plus(i, class / 11 % 4 * 64), new);
 }
+
+// Past every buffer.
+const NOWHERE: usize = 1000;
 
 // The bytes that a file is damaged with.
 const DAMAGE: [usize; 10] = [0, 1, 128, 1, 255, 1, 127, 1, 0, 256];
 
-// How many bytes a file of so many has, with some cut off or left over.
-fn damaged_size(size: usize, kind: usize, x: usize) -> usize {
-    match kind {
-        3 => minus(size, draw(x, 5, 4)),
-        4 => plus(size, draw(x, 5, 3)),
+// Damages the file of so many bytes: one of them is changed, some are cut off or left over, or none. The answer is the bytes
+// that the file has then. The last classes have a file of random bytes after a small count, at the buffer's front.
+fn damaged(s: &mut [u8], size: usize, x: usize) -> usize {
+    let class = draw(x, 7, 9);
+    let at = match class {
+        0 | 1 | 2 => plus(FILE, draw(x, 8, size)),
+        3 | 4 | 5 => NOWHERE,
+        _ => 0,
+    };
+    let new = if class < 3 {
+        choose(&DAMAGE, draw(x, 9, 6), x, 10)
+    } else {
+        draw(x, 8, 6)
+    };
+    put8(s, at, byte(new));
+    match class {
+        3 => minus(size, draw(x, 8, 4)),
+        4 => plus(size, draw(x, 8, 3)),
+        6 | 7 | 8 => draw(x, 9, 16),
         _ => size,
     }
-}
-
-// Bytes of a drawn kind: those of a list, one of them changed or some cut off or left over, or not damaged; or bytes drawn
-// at random after a small count.
-fn draw_file(x: usize, s: &mut [u8; 300], list: &mut [u32; 24]) -> usize {
-    if draw(x, 0, 3) == 0 {
-        put8(s, FILE, byte(draw(x, 1, 6)));
-        return draw(x, 2, 16);
-    }
-    draw_list(list, x);
-    let size = least_of(codec::encode(cells::part32(list, draw(x, 3, 13)), s), 100);
-    let kind = draw(x, 4, 6);
-    if kind < 3 {
-        put8(
-            s,
-            plus(FILE, draw(x, 5, size)),
-            byte(choose(&DAMAGE, draw(x, 6, 6), x, 7)),
-        );
-    }
-    damaged_size(size, kind, x)
 }
 
 // Cells for what is read, too few or enough: up to 12 once in four draws.
 const CELLS: [usize; 4] = [0, 13, 16, 1];
 
-pub(crate) fn drawn_file(x: usize, s: &mut [u8; 300], list: &mut [u32; 24]) -> bool {
-    let size = draw_file(x, s, list);
-    let room = choose(&CELLS, draw(x, 8, 4), x, 9);
-    let got = read(packed::part(s, FILE, size), room, x, list);
+// A case over a buffer of drawn bytes: kind 7 writes a drawn list, 8 reads a drawn file.
+pub(crate) fn drawn(kind: usize, x: usize, s: &mut [u8; 300], list: &mut [u32; 24]) -> bool {
+    let k = draw(x, 0, 25);
+    draw_list(list, x);
+    spoil(list, k, x);
+    if kind == 7 {
+        let room = if draw(x, 5, 3) == 0 {
+            draw(x, 6, plus(k, 6))
+        } else {
+            FILE
+        };
+        let got = written(cells::part32(list, k), room, x, s);
+        return got.good;
+    }
+    let whole = codec::encode(cells::part32(list, k % 13), s);
+    let size = damaged(s, least_of(whole, 100), x);
+    let from = if 5 < draw(x, 7, 9) { 0 } else { FILE };
+    let room = choose(&CELLS, draw(x, 11, 4), x, 12);
+    let got = read(packed::part(s, from, size), room, x, list);
     got.good
 }

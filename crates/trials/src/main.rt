@@ -34,8 +34,7 @@ fn over_bytes(kind: usize, i: usize, x: usize) -> bool {
     packed::fill(&mut s, x);
     match kind {
         6 => single::eight_bits(x, &mut s),
-        7 => files::drawn_list(x, &mut s, &mut list),
-        8 => files::drawn_file(x, &mut s, &mut list),
+        7 | 8 => files::drawn(kind, x, &mut s, &mut list),
         _ => named::list(i, x, &mut s, &mut list),
     }
 }

@@ -61,18 +61,13 @@ pub(crate) fn refusal(c: Call) -> usize {
     if c.scratch < 4224 { 7 } else { 0 }
 }
 
-// H's condition: whether the pattern, moved by d, shows the eight bits from p on. The first bits of the value may lie
-// before the pattern.
-fn meets(s: &[u8], m: usize, p: usize, d: usize) -> bool {
-    let before = minus(plus(d, 8), m);
-    agree(s, minus(m, plus(d, 8)), plus(p, before), minus(8, before))
-}
-
-// The least d from `first` to m that meets it.
+// The least d from `first` to m that meets H's condition: the pattern, moved by d, shows the eight bits from p on. The
+// first bits of the value may lie before the pattern.
 pub(crate) fn least(s: &[u8], m: usize, p: usize, first: usize) -> usize {
     let mut d = first;
     while d < m {
-        if meets(s, m, p, d) {
+        let before = minus(plus(d, 8), m);
+        if agree(s, minus(m, plus(d, 8)), plus(p, before), minus(8, before)) {
             return d;
         }
         d += 1;

@@ -7,7 +7,6 @@ use crate::cells;
 use crate::cells::get32;
 use crate::codec::FILE;
 use crate::codec::REFUSED;
-use crate::draw::entry;
 use crate::files;
 use crate::naive;
 use crate::number::plus;
@@ -72,54 +71,66 @@ fn pair(i: usize) -> Row {
     PAIRS[i % 9]
 }
 
-// Searches of a pair: the pair, the method, the budget and the cells; then the steps, the occurrences written, the mark,
-// and 0 for done, 1 for full, 2 for spent.
-const SEARCHES: [Row; 36] = [
+// Searches of a pair, by their digits: the pair, the method, the budget, which is 9 for all steps, and the cells; then the
+// steps, the occurrences written, the mark, and 0 for done, 1 for full, 2 for spent.
+const SEARCHES: [usize; 36] = [
     // the papers with whole answers
-    Row(0, 0, ALL, 3, 27, 1, 27, 0),
-    Row(0, 1, ALL, 3, 5, 1, 27, 0),
-    Row(0, 3, ALL, 3, 1, 1, 27, 0),
-    Row(1, 0, ALL, 4, 13, 3, 13, 0),
-    Row(1, 1, ALL, 4, 3, 3, 13, 0),
-    Row(1, 2, ALL, 4, 2, 3, 13, 0),
-    Row(1, 3, ALL, 4, 1, 3, 13, 0),
-    Row(3, 0, ALL, 1, 0, 0, 0, 0),
-    Row(3, 3, ALL, 1, 0, 0, 0, 0),
-    Row(2, 0, ALL, 3, 3, 3, 3, 0),
-    Row(2, 3, ALL, 3, 1, 3, 3, 0),
+    0_0_9_3_027_1_027_0,
+    0_1_9_3_005_1_027_0,
+    0_3_9_3_001_1_027_0,
+    1_0_9_4_013_3_013_0,
+    1_1_9_4_003_3_013_0,
+    1_2_9_4_002_3_013_0,
+    1_3_9_4_001_3_013_0,
+    3_0_9_1_000_0_000_0,
+    3_3_9_1_000_0_000_0,
+    2_0_9_3_003_3_003_0,
+    2_3_9_3_001_3_003_0,
     // the papers with marks, by the budget
-    Row(0, 1, 1, 3, 1, 0, 7, 2),
-    Row(0, 1, 2, 3, 2, 0, 11, 2),
-    Row(0, 1, 3, 3, 3, 1, 17, 2),
-    Row(0, 1, 4, 3, 4, 1, 26, 2),
-    Row(1, 2, 1, 4, 1, 2, 9, 2),
-    Row(4, 3, 1, 1, 1, 0, 65, 2),
-    Row(4, 3, 2, 1, 2, 0, 130, 2),
-    Row(4, 3, 3, 1, 3, 0, 195, 2),
-    Row(4, 3, ALL, 1, 4, 0, 200, 0),
+    0_1_1_3_001_0_007_2,
+    0_1_2_3_002_0_011_2,
+    0_1_3_3_003_1_017_2,
+    0_1_4_3_004_1_026_2,
+    1_2_1_4_001_2_009_2,
+    4_3_1_1_001_0_065_2,
+    4_3_2_1_002_0_130_2,
+    4_3_3_1_003_0_195_2,
+    4_3_9_1_004_0_200_0,
     // one cell
-    Row(1, 0, ALL, 1, 7, 1, 6, 1),
-    Row(1, 1, ALL, 1, 2, 1, 6, 1),
-    Row(1, 2, ALL, 1, 1, 1, 6, 1),
-    Row(1, 3, ALL, 1, 1, 1, 6, 1),
+    1_0_9_1_007_1_006_1,
+    1_1_9_1_002_1_006_1,
+    1_2_9_1_001_1_006_1,
+    1_3_9_1_001_1_006_1,
     // what students write: padding, a row 8, and a full list where no further occurrence exists (moving by m after a hash
     // hit, and giving the place's last bit, are ruled out by the papers above)
-    Row(5, 0, ALL, 2, 1, 0, 1, 0),
-    Row(5, 3, ALL, 2, 1, 0, 1, 0),
-    Row(6, 1, ALL, 2, 6, 0, 6, 0),
-    Row(6, 2, ALL, 2, 2, 0, 6, 0),
-    Row(7, 0, ALL, 2, 9, 1, 9, 0),
-    Row(8, 0, ALL, 2, 17, 1, 17, 0),
-    Row(1, 0, ALL, 3, 13, 3, 13, 0),
-    Row(1, 1, ALL, 3, 3, 3, 13, 0),
-    Row(1, 2, ALL, 3, 2, 3, 13, 0),
-    Row(1, 3, ALL, 3, 1, 3, 13, 0),
-    Row(1, 0, ALL, 2, 13, 2, 12, 1),
-    Row(1, 1, ALL, 2, 3, 2, 12, 1),
+    5_0_9_2_001_0_001_0,
+    5_3_9_2_001_0_001_0,
+    6_1_9_2_006_0_006_0,
+    6_2_9_2_002_0_006_0,
+    7_0_9_2_009_1_009_0,
+    8_0_9_2_017_1_017_0,
+    1_0_9_3_013_3_013_0,
+    1_1_9_3_003_3_013_0,
+    1_2_9_3_002_3_013_0,
+    1_3_9_3_001_3_013_0,
+    1_0_9_2_013_2_012_1,
+    1_1_9_2_003_2_012_1,
 ];
 
 fn of_search(i: usize) -> Row {
-    SEARCHES[i % 36]
+    let d = SEARCHES[i % 36];
+    let digit = d / 1000000000 % 10;
+    let budget = if digit < 9 { digit } else { ALL };
+    Row(
+        d / 100000000000 % 10,
+        d / 10000000000 % 10,
+        budget,
+        d / 100000000 % 10,
+        d / 100000 % 1000,
+        d / 10000 % 10,
+        d / 10 % 1000,
+        d % 10,
+    )
 }
 
 fn search(i: usize, s: &mut [u8; 813], list: &mut [u32; 4400], scratch: &mut [u64; 4226]) -> bool {
@@ -199,15 +210,14 @@ fn refusal(i: usize, s: &[u8], list: &mut [u32], scratch: &mut [u64]) -> bool {
     run.good & (run.refusal == r.0)
 }
 
-// H of V2: the value and its H.
-const VALUES: [usize; 10] = [101, 2, 203, 1, 150, 0, 255, 19, 0, 21];
+// H of V2, by its digits: the value and its H.
+const VALUES: [usize; 5] = [101_02, 203_01, 150_00, 255_19, 0_21];
 
 fn hash(i: usize, s: &mut [u8]) -> bool {
-    let k = i % 5 * 2;
-    let want = entry(&VALUES, k + 1);
+    let d = VALUES[i % 5];
     put_digits(s, 0, 0b110010110010110010110, 21);
-    put_digits(s, TEXT, entry(&VALUES, k), 8);
-    single::hash(s, 21, 3) & (naive::least(s, 21, TEXT_BIT, 0) == want)
+    put_digits(s, TEXT, d / 100, 8);
+    single::hash(s, 21, 3) & (naive::least(s, 21, TEXT_BIT, 0) == d % 100)
 }
 
 // A case of the search or of H.

@@ -36,8 +36,11 @@ pub(crate) fn bit(s: &[u8], p: usize) -> u8 {
 
 // Bit p becomes b, which is 0 or 1.
 fn set_bit(s: &mut [u8], p: usize, b: u8) {
-    let old = bit(s, p);
-    put8(s, p / 8, get8(s, p / 8) ^ ((old ^ b) << (7 - p % 8)));
+    let i = p / 8;
+    if i < s.len() {
+        let o = 7 - p % 8;
+        s[i] = s[i] ^ (((s[i] >> o) % 2 ^ b) << o);
+    }
 }
 
 // Copies k bits, rising, so that bits that were just written are copied again where the two overlap: a period.

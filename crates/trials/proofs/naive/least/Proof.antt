@@ -14,8 +14,26 @@ abbrev μ-loop : tie.MeasureT-loop
 loop-holds : tie.Need-loop-holds Inv-loop μ-loop
 loop-holds c = search needs
 
-meets-requires : tie.Need-meets-requires Inv-loop μ-loop
-meets-requires c κs = search needs
+plus-requires : tie.Need-plus-requires Inv-loop μ-loop
+plus-requires c κs = search needs
+
+minus-requires : tie.Need-minus-requires Inv-loop μ-loop
+minus-requires c κs = search needs
+
+plus-requires-2 : tie.Need-plus-requires-2 Inv-loop μ-loop
+plus-requires-2 c κs = search needs
+
+minus-requires-2 : tie.Need-minus-requires-2 Inv-loop μ-loop
+minus-requires-2 c κs = search needs
+
+plus-requires-3 : tie.Need-plus-requires-3 Inv-loop μ-loop
+plus-requires-3 c κs = search needs
+
+minus-requires-3 : tie.Need-minus-requires-3 Inv-loop μ-loop
+minus-requires-3 c κs = search needs
+
+agree-requires : tie.Need-agree-requires Inv-loop μ-loop
+agree-requires c κs = search needs
 
 returns : tie.Need-returns Inv-loop μ-loop
 returns c = search needs
@@ -39,7 +57,13 @@ least-spec =
     Inv-loop
     μ-loop
     loop-holds
-    meets-requires
+    plus-requires
+    minus-requires
+    plus-requires-2
+    minus-requires-2
+    plus-requires-3
+    minus-requires-3
+    agree-requires
     returns
     add-d
     loop-less
