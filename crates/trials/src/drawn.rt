@@ -2,7 +2,6 @@
 use crate::call::ALL;
 use crate::call::Call;
 use crate::call::judged;
-use crate::cells;
 use crate::draw::choose;
 use crate::draw::draw;
 use crate::draw::entry;
@@ -224,7 +223,7 @@ fn row(edges: &[usize], i: usize) -> Call {
     }
 }
 
-// A case: kinds 0 to 3 are the methods whole, 4 is a list of twelve calls, 5 a row of the refusals.
+// A case over drawn buffers: kinds 0 to 3 are the methods whole, 4 is a list of twelve calls, 5 a row of the refusals.
 pub(crate) fn one(
     kind: usize,
     i: usize,
@@ -233,8 +232,6 @@ pub(crate) fn one(
     list: &mut [u32; 4400],
     scratch: &mut [u64; 4226],
 ) -> bool {
-    packed::fill(s, x);
-    cells::fill64(scratch, x);
     let c = if kind == 5 {
         row(&EDGES, i)
     } else {

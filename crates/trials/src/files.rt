@@ -151,17 +151,20 @@ const DISTANCES: [usize; 14] = [
     300,
 ];
 
-// Rising positions with drawn distances.
+// 24 rising positions with drawn distances.
 fn draw_list(list: &mut [u32], x: usize) {
     let mut p = draw(x, 30, 300);
     let mut i: usize = 0;
-    while i < list.len() {
-        list[i] = small(p);
+    while i < 24 {
+        put32(list, i, small(p));
         let distance = choose(&DISTANCES, draw(x, i ^ 64, 16), x, i ^ 128);
         p = plus(plus(p, 1), distance);
         i += 1;
     }
 }
+
+// Past every buffer.
+const NOWHERE: usize = 5000;
 
 // Spoils a list of k positions now and then, so that it may not rise: a position is the one before it, or about the limit.
 // The other classes write nowhere.
@@ -174,11 +177,8 @@ fn spoil(list: &mut [u32], k: usize, x: usize) {
     } else {
         old
     };
-    put32(list, plus(i, class / 11 % 4 * 64), new);
+    put32(list, plus(i, class / 11 % 4 * NOWHERE), new);
 }
-
-// Past every buffer.
-const NOWHERE: usize = 1000;
 
 // The bytes that a file is damaged with.
 const DAMAGE: [usize; 10] = [0, 1, 128, 1, 255, 1, 127, 1, 0, 256];
@@ -210,7 +210,7 @@ fn damaged(s: &mut [u8], size: usize, x: usize) -> usize {
 const CELLS: [usize; 4] = [0, 13, 16, 1];
 
 // A case over a buffer of drawn bytes: kind 7 writes a drawn list, 8 reads a drawn file.
-pub(crate) fn drawn(kind: usize, x: usize, s: &mut [u8; 300], list: &mut [u32; 24]) -> bool {
+pub(crate) fn drawn(kind: usize, x: usize, s: &mut [u8; 813], list: &mut [u32; 4400]) -> bool {
     let k = draw(x, 0, 25);
     draw_list(list, x);
     spoil(list, k, x);

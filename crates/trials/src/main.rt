@@ -14,39 +14,22 @@ mod single;
 
 use libc::STDOUT_FILENO;
 
-// A case over a buffer of bits, a list and a scratch: a method whole, a list of calls, a row of the refusals, H, or a named
-// one.
-fn over_bits(kind: usize, i: usize, x: usize) -> bool {
+// A case of a kind, by its number and a drawn one, over a buffer of bytes, a list and a scratch. The buffer is drawn, but
+// zero for the named cases.
+fn one(kind: usize, i: usize, x: usize) -> bool {
     let mut s = [0u8; 813];
     let mut list = [0u32; 4400];
     let mut scratch = [0u64; 4226];
-    match kind {
-        9 => single::drawn_hash(x, &mut s),
-        10 => named::one(i, &mut s, &mut list, &mut scratch),
-        _ => drawn::one(kind, i, x, &mut s, &mut list, &mut scratch),
+    cells::fill64(&mut scratch, x);
+    if kind == 10 {
+        return named::one(i, x, &mut s, &mut list, &mut scratch);
     }
-}
-
-// A case over a few bytes and cells: eight bits, or the position list file.
-fn over_bytes(kind: usize, i: usize, x: usize) -> bool {
-    let mut s = [0u8; 300];
-    let mut list = [0u32; 24];
     packed::fill(&mut s, x);
     match kind {
         6 => single::eight_bits(x, &mut s),
         7 | 8 => files::drawn(kind, x, &mut s, &mut list),
-        _ => named::list(i, x, &mut s, &mut list),
-    }
-}
-
-// A case of a kind, by its number and a drawn one.
-fn one(kind: usize, i: usize, x: usize) -> bool {
-    if (kind == 10) & (52 < i) {
-        return over_bytes(kind, number::minus(i, 53), x);
-    }
-    match kind {
-        6 | 7 | 8 => over_bytes(kind, i, x),
-        _ => over_bits(kind, i, x),
+        9 => single::drawn_hash(x, &mut s),
+        _ => drawn::one(kind, i, x, &mut s, &mut list, &mut scratch),
     }
 }
 
@@ -109,15 +92,22 @@ fn line(name: &[u8], count: usize) {
     io::write_all(STDOUT_FILENO, b"\n");
 }
 
+// The line of a kind; the answer is how many cases it has.
+fn kind_line(kind: usize, counts: &[usize]) -> usize {
+    let k = kind % 16;
+    let count = draw::entry(counts, 2 * k + 1);
+    line(
+        packed::part(&NAMES, 32 * k, draw::entry(counts, 2 * k)),
+        count,
+    );
+    count
+}
+
 fn main() {
     let mut wrong: usize = 0;
     let mut kind: usize = 0;
     while kind < 11 {
-        let count = draw::entry(&COUNTS, 2 * kind + 1);
-        line(
-            packed::part(&NAMES, 32 * kind, draw::entry(&COUNTS, 2 * kind)),
-            count,
-        );
+        let count = kind_line(kind, &COUNTS);
         wrong = number::plus(wrong, many(kind, count));
         kind += 1;
     }

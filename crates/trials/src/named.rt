@@ -11,6 +11,7 @@ use crate::files;
 use crate::naive;
 use crate::number::plus;
 use crate::number::small;
+use crate::packed;
 use crate::packed::TEXT;
 use crate::packed::TEXT_BIT;
 use crate::packed::agree;
@@ -133,7 +134,13 @@ fn of_search(i: usize) -> Row {
     )
 }
 
-fn search(i: usize, s: &mut [u8; 813], list: &mut [u32; 4400], scratch: &mut [u64; 4226]) -> bool {
+fn search(
+    i: usize,
+    x: usize,
+    s: &mut [u8; 813],
+    list: &mut [u32; 4400],
+    scratch: &mut [u64; 4226],
+) -> bool {
     let r = of_search(i);
     let p = pair(r.0);
     put_digits(s, TEXT, p.0, p.1);
@@ -149,7 +156,7 @@ fn search(i: usize, s: &mut [u8; 813], list: &mut [u32; 4400], scratch: &mut [u6
         room: r.3,
         scratch: 4226,
     };
-    let run = judged(c, i, s, list, scratch);
+    let run = judged(c, x, s, list, scratch);
     run.good
         & (run.steps == r.4)
         & (run.hits == r.5)
@@ -193,7 +200,7 @@ fn of_refusal(i: usize) -> Row {
     REFUSALS[i % 12]
 }
 
-fn refusal(i: usize, s: &[u8], list: &mut [u32], scratch: &mut [u64]) -> bool {
+fn refusal(i: usize, x: usize, s: &[u8], list: &mut [u32], scratch: &mut [u64]) -> bool {
     let r = of_refusal(i);
     let c = Call {
         n: r.1,
@@ -206,7 +213,7 @@ fn refusal(i: usize, s: &[u8], list: &mut [u32], scratch: &mut [u64]) -> bool {
         room: 20,
         scratch: r.7,
     };
-    let run = judged(c, i, s, list, scratch);
+    let run = judged(c, x, s, list, scratch);
     run.good & (run.refusal == r.0)
 }
 
@@ -218,23 +225,6 @@ fn hash(i: usize, s: &mut [u8]) -> bool {
     put_digits(s, 0, 0b110010110010110010110, 21);
     put_digits(s, TEXT, d / 100, 8);
     single::hash(s, 21, 3) & (naive::least(s, 21, TEXT_BIT, 0) == d % 100)
-}
-
-// A case of the search or of H.
-pub(crate) fn one(
-    i: usize,
-    s: &mut [u8; 813],
-    list: &mut [u32; 4400],
-    scratch: &mut [u64; 4226],
-) -> bool {
-    cells::fill64(scratch, i);
-    if i < 36 {
-        return search(i, s, list, scratch);
-    }
-    if i < 48 {
-        return refusal(i, s, list, scratch);
-    }
-    hash(i - 48, s)
 }
 
 // The papers of the position list file, and the examples of rows 8 to 14: a list by its first position, how far apart the
@@ -270,8 +260,8 @@ fn rise(list: &mut [u32], first: usize, apart: usize) {
     }
 }
 
-// A case of the position list file. `x` is what the buffer was filled with.
-pub(crate) fn list(i: usize, x: usize, s: &mut [u8; 300], list: &mut [u32; 24]) -> bool {
+// A case of the position list file.
+fn file(i: usize, x: usize, s: &mut [u8; 813], list: &mut [u32; 4400]) -> bool {
     let r = of_list(i);
     rise(list, r.0, r.1);
     let written = files::written(cells::part32(list, r.2), r.3, x, s);
@@ -284,4 +274,25 @@ pub(crate) fn list(i: usize, x: usize, s: &mut [u8; 300], list: &mut [u32; 24]) 
         & read.good
         & (read.number == r.7)
         & ((2 < i) | (same & listed(list, r.2, r.0, r.1)))
+}
+
+// A case over a buffer of zeros.
+pub(crate) fn one(
+    i: usize,
+    x: usize,
+    s: &mut [u8; 813],
+    list: &mut [u32; 4400],
+    scratch: &mut [u64; 4226],
+) -> bool {
+    if i < 36 {
+        return search(i, x, s, list, scratch);
+    }
+    if i < 48 {
+        return refusal(i, x, s, list, scratch);
+    }
+    if i < 53 {
+        return hash(i - 48, s);
+    }
+    packed::fill(s, x);
+    file(i - 53, x, s, list)
 }

@@ -33,7 +33,7 @@ fn eight_number(why: eight::Refusal) -> usize {
 const COUNTS: [usize; 4] = [1073741820, 9, 0, 101];
 
 // Eight bits from p on lie inside where a pattern of eight bits may have the mark p + 1.
-pub(crate) fn eight_bits(x: usize, s: &mut [u8; 300]) -> bool {
+pub(crate) fn eight_bits(x: usize, s: &mut [u8; 813]) -> bool {
     let n = choose(&COUNTS, draw(x, 0, 50), x, 1);
     let short = least_of(n, 100);
     let p = draw(x, 2, plus(short, 3));
@@ -83,7 +83,6 @@ pub(crate) fn hash(s: &[u8], m: usize, b: usize) -> bool {
 
 // The value is drawn, or a part of the pattern.
 pub(crate) fn drawn_hash(x: usize, s: &mut [u8; 813]) -> bool {
-    packed::fill(s, x);
     let m = minus(plus(pattern_length(x), draw(x, 2, 4)), 1);
     repeat(s, 0, m, draw(x, 3, 12));
     repeat(s, TEXT_BIT, 8, draw(x, 4, 3));

@@ -11,7 +11,7 @@ abbrev Inv-loop : tie.InvT-loop
 Inv-loop list₀ x p₀ i₀ t6 list p i = length list ≡ length list₀
 
 abbrev μ-loop : tie.MeasureT-loop
-μ-loop list₀ x p₀ i₀ t6 list p i = length list₀ - i
+μ-loop list₀ x p₀ i₀ t6 list p i = 24 - i
 
 draw-requires : tie.Need-draw-requires Inv-loop μ-loop
 draw-requires c κs = search needs
@@ -22,11 +22,8 @@ loop-holds c = search needs
 small-requires : tie.Need-small-requires Inv-loop μ-loop
 small-requires c κs = search needs
 
-mul-list : tie.Need-mul-list Inv-loop μ-loop
-mul-list c = search needs
-
-slice-write-list : tie.Need-slice-write-list Inv-loop μ-loop
-slice-write-list c = search needs
+put32-requires : tie.Need-put32-requires Inv-loop μ-loop
+put32-requires c κs = search needs
 
 slice-aggregate-choose : tie.Need-slice-aggregate-choose Inv-loop μ-loop
 slice-aggregate-choose c = search needs
@@ -67,8 +64,7 @@ draw-list-spec =
     draw-requires
     loop-holds
     small-requires
-    mul-list
-    slice-write-list
+    put32-requires
     slice-aggregate-choose
     draw-requires-2
     choose-requires
