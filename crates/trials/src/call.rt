@@ -1,12 +1,12 @@
 // One call of the search beside the naive one.
-use crate::cells;
 use crate::naive;
 use crate::naive::Run;
-use crate::number::least_of;
-use crate::number::small;
-use crate::packed::TEXT;
-use crate::packed::part;
 use bits::Place;
+use draws::cells;
+use draws::number::least_of;
+use draws::number::small;
+use draws::packed::TEXT;
+use draws::packed::part;
 use search::Mark;
 use search::Method;
 use search::Outcome;
@@ -107,8 +107,21 @@ fn verdict(c: Call, x: usize, outcome: Outcome, s: &[u8], list: &[u32], scratch:
 }
 
 // The call of both, on a list of known content; the scratch after the first 4,224 cells has one too.
-pub(crate) fn judged(c: Call, x: usize, s: &[u8], list: &mut [u32], scratch: &mut [u64]) -> Run {
+pub(crate) fn judged(
+    c: Call,
+    x: usize,
+    s: &[u8],
+    list: &mut [u32],
+    scratch: &mut [u64; 4226],
+) -> Run {
     cells::fill32(list, x);
     let outcome = made(c, s, list, scratch);
     verdict(c, x, outcome, s, list, scratch)
+}
+
+// A single call.
+pub(crate) fn single(c: Call, x: usize, s: &[u8], list: &mut [u32]) -> Run {
+    let mut scratch = [0u64; 4226];
+    cells::fill64(&mut scratch, x);
+    judged(c, x, s, list, &mut scratch)
 }

@@ -2,17 +2,18 @@
 use crate::call::ALL;
 use crate::call::Call;
 use crate::call::judged;
-use crate::draw::choose;
-use crate::draw::draw;
-use crate::draw::entry;
-use crate::draw::next;
 use crate::naive;
-use crate::number::ceiling;
-use crate::number::least_of;
-use crate::number::minus;
-use crate::number::plus;
-use crate::packed;
-use crate::packed::TEXT_BIT;
+use draws::cells;
+use draws::draw::choose;
+use draws::draw::draw;
+use draws::draw::entry;
+use draws::draw::next;
+use draws::number::ceiling;
+use draws::number::least_of;
+use draws::number::minus;
+use draws::number::plus;
+use draws::packed;
+use draws::packed::TEXT_BIT;
 
 // Lengths of the pattern of every class, out of 40.
 const PATTERNS: [usize; 28] = [
@@ -50,8 +51,8 @@ pub(crate) fn pattern_length(x: usize) -> usize {
     choose(&PATTERNS, draw(x, 0, 40), x, 1)
 }
 
-// One more than the lengths of the text of every class, out of 32. The first two are by themselves, and have whole bytes or
-// a bit more; the next is by itself; the others are about the pattern's length or longer.
+// Lengths of the text of every class, out of 32, and 1. The first two have whole bytes or a bit more; the next two are any
+// length and 0; the others are about the pattern's length or longer.
 const TEXTS: [usize; 20] = [
     1,
     256,
@@ -141,16 +142,11 @@ fn next_call(c: Call, x: usize, calls: usize) -> Call {
     call
 }
 
-// So many calls from mark to mark. Each is lent the cells after what the calls before it wrote, so that the list holds all
+// So many calls from mark to mark, with one scratch. Each is lent the cells after what the calls before it wrote, so that the list holds all
 // of it, joined: every occurrence from the first mark on to the last.
-fn joined(
-    first: Call,
-    calls: usize,
-    x: usize,
-    s: &[u8],
-    list: &mut [u32],
-    scratch: &mut [u64],
-) -> bool {
+fn joined(first: Call, calls: usize, x: usize, s: &[u8], list: &mut [u32]) -> bool {
+    let mut scratch = [0u64; 4226];
+    cells::fill64(&mut scratch, x);
     let mut c = first;
     let mut y = x;
     let mut good = true;
@@ -160,7 +156,7 @@ fn joined(
         y = next(y);
         c = next_call(c, y, calls);
         let a = least_of(count, list.len());
-        let run = judged(c, x, s, &mut list[a..], scratch);
+        let run = judged(c, x, s, &mut list[a..], &mut scratch);
         good = good & run.good;
         count = plus(count, run.hits);
         c.mark = run.mark;
@@ -230,7 +226,6 @@ pub(crate) fn one(
     x: usize,
     s: &mut [u8; 813],
     list: &mut [u32; 4400],
-    scratch: &mut [u64; 4226],
 ) -> bool {
     let c = if kind == 5 {
         row(&EDGES, i)
@@ -238,5 +233,5 @@ pub(crate) fn one(
         whole(kind, x, s)
     };
     let calls = if kind == 4 { 12 } else { 1 };
-    joined(c, calls, x, s, list, scratch)
+    joined(c, calls, x, s, list)
 }

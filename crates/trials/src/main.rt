@@ -1,35 +1,29 @@
-// Program `trials`: drawn cases of every kind against a naive search and a naive reader and writer of the position list
-// file, and the named cases of document 01. It prints how many cases each kind has, and the count of disagreements.
+// Program `trials`: drawn calls of every kind against a naive search, and the named cases of document 01. It prints how many
+// cases each kind has, and the count of disagreements.
 mod call;
-mod cells;
-mod codec;
-mod draw;
 mod drawn;
-mod files;
 mod naive;
 mod named;
-mod number;
-mod packed;
 mod single;
 
+use draws::draw;
+use draws::number;
+use draws::packed;
 use libc::STDOUT_FILENO;
 
-// A case of a kind, by its number and a drawn one, over a buffer of bytes, a list and a scratch. The buffer is drawn, but
-// zero for the named cases.
+// A case of a kind, by its number and a drawn one, over a buffer of bytes and a list. The buffer is drawn, but zero for the
+// named cases.
 fn one(kind: usize, i: usize, x: usize) -> bool {
     let mut s = [0u8; 813];
     let mut list = [0u32; 4400];
-    let mut scratch = [0u64; 4226];
-    cells::fill64(&mut scratch, x);
-    if kind == 10 {
-        return named::one(i, x, &mut s, &mut list, &mut scratch);
+    if kind == 8 {
+        return named::one(i, x, &mut s, &mut list);
     }
     packed::fill(&mut s, x);
     match kind {
         6 => single::eight_bits(x, &mut s),
-        7 | 8 => files::drawn(kind, x, &mut s, &mut list),
-        9 => single::drawn_hash(x, &mut s),
-        _ => drawn::one(kind, i, x, &mut s, &mut list, &mut scratch),
+        7 => single::drawn_hash(x, &mut s),
+        _ => drawn::one(kind, i, x, &mut s, &mut list),
     }
 }
 
@@ -47,7 +41,7 @@ fn many(kind: usize, count: usize) -> usize {
 }
 
 // The kinds: where each one's name ends, and how many cases it has. A name has 32 bytes of room.
-const NAMES: [u8; 352] = *b"\
+const NAMES: [u8; 288] = *b"\
     plain, whole                    \
     hash, whole                     \
     skip, whole                     \
@@ -55,12 +49,10 @@ const NAMES: [u8; 352] = *b"\
     lists of twelve calls           \
     refusals and their neighbours   \
     eight bits                      \
-    position lists written          \
-    position files read             \
     H                               \
     named                           ";
 
-const COUNTS: [usize; 22] = [
+const COUNTS: [usize; 18] = [
     13,
     30000,
     12,
@@ -75,14 +67,10 @@ const COUNTS: [usize; 22] = [
     drawn::ROWS,
     11,
     40000,
-    23,
-    60000,
-    20,
-    60000,
     2,
     40000,
     6,
-    64,
+    53,
 ];
 
 // Prints a name and a count.
@@ -106,7 +94,7 @@ fn kind_line(kind: usize, counts: &[usize]) -> usize {
 fn main() {
     let mut wrong: usize = 0;
     let mut kind: usize = 0;
-    while kind < 11 {
+    while kind < 9 {
         let count = kind_line(kind, &COUNTS);
         wrong = number::plus(wrong, many(kind, count));
         kind += 1;

@@ -1,14 +1,14 @@
 // A naive search, bit by bit, and the table of refusals: the written rules of document 01. The pattern lies at the front of
 // a buffer and the text from TEXT on.
 use crate::call::Call;
-use crate::cells::get32;
-use crate::number::ceiling;
-use crate::number::minus;
-use crate::number::plus;
-use crate::number::small;
-use crate::packed::TEXT_BIT;
-use crate::packed::agree;
-use crate::packed::bit;
+use draws::cells::get32;
+use draws::number::ceiling;
+use draws::number::minus;
+use draws::number::plus;
+use draws::number::small;
+use draws::packed::TEXT_BIT;
+use draws::packed::agree;
+use draws::packed::bit;
 
 // What a call comes to: the number of its refusal, or 0; steps, occurrences written and the mark; and how it stopped: 0
 // done, 1 full, 2 spent.

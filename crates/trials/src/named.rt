@@ -1,23 +1,14 @@
-// Named cases: the course's papers, what students write, and the examples of the table of refusals, in document 01. Each
-// is also compared with the naive side.
+// Named cases: the course's papers, what students write, and the examples of rows 1 to 7 of the table of refusals, in
+// document 01. Each is also compared with the naive side.
+use crate::call;
 use crate::call::ALL;
 use crate::call::Call;
-use crate::call::judged;
-use crate::cells;
-use crate::cells::get32;
-use crate::codec::FILE;
-use crate::codec::REFUSED;
-use crate::files;
 use crate::naive;
-use crate::number::plus;
-use crate::number::small;
-use crate::packed;
-use crate::packed::TEXT;
-use crate::packed::TEXT_BIT;
-use crate::packed::agree;
-use crate::packed::part;
-use crate::packed::put_digits;
 use crate::single;
+use draws::cells::listed;
+use draws::packed::TEXT;
+use draws::packed::TEXT_BIT;
+use draws::packed::put_digits;
 
 // A row of a table.
 struct Row(usize, usize, usize, usize, usize, usize, usize, usize);
@@ -134,13 +125,7 @@ fn of_search(i: usize) -> Row {
     )
 }
 
-fn search(
-    i: usize,
-    x: usize,
-    s: &mut [u8; 813],
-    list: &mut [u32; 4400],
-    scratch: &mut [u64; 4226],
-) -> bool {
+fn search(i: usize, x: usize, s: &mut [u8; 813], list: &mut [u32; 4400]) -> bool {
     let r = of_search(i);
     let p = pair(r.0);
     put_digits(s, TEXT, p.0, p.1);
@@ -156,27 +141,13 @@ fn search(
         room: r.3,
         scratch: 4226,
     };
-    let run = judged(c, x, s, list, scratch);
+    let run = call::single(c, x, s, list);
     run.good
         & (run.steps == r.4)
         & (run.hits == r.5)
         & (run.mark == r.6)
         & (run.stop == r.7)
         & listed(list, r.5, p.4, p.5)
-}
-
-// Whether the first cells, so many, hold `first` and what is so far apart.
-fn listed(list: &[u32], hits: usize, first: usize, apart: usize) -> bool {
-    let mut p = first;
-    let mut i: usize = 0;
-    while i < hits {
-        if get32(list, i) != small(p) {
-            return false;
-        }
-        p = plus(p, apart);
-        i += 1;
-    }
-    true
 }
 
 // The examples of rows 1 to 7, and what is accepted beside them: the number, n and the text's bytes, m and the pattern's
@@ -200,7 +171,7 @@ fn of_refusal(i: usize) -> Row {
     REFUSALS[i % 12]
 }
 
-fn refusal(i: usize, x: usize, s: &[u8], list: &mut [u32], scratch: &mut [u64]) -> bool {
+fn refusal(i: usize, x: usize, s: &[u8], list: &mut [u32]) -> bool {
     let r = of_refusal(i);
     let c = Call {
         n: r.1,
@@ -213,7 +184,7 @@ fn refusal(i: usize, x: usize, s: &[u8], list: &mut [u32], scratch: &mut [u64]) 
         room: 20,
         scratch: r.7,
     };
-    let run = judged(c, x, s, list, scratch);
+    let run = call::single(c, x, s, list);
     run.good & (run.refusal == r.0)
 }
 
@@ -227,72 +198,13 @@ fn hash(i: usize, s: &mut [u8]) -> bool {
     single::hash(s, 21, 3) & (naive::least(s, 21, TEXT_BIT, 0) == d % 100)
 }
 
-// The papers of the position list file, and the examples of rows 8 to 14: a list by its first position, how far apart the
-// others are and their count; the bytes of the target, which are the cells too, and what is written; a file and its bytes,
-// and what is read. A row about a list has an empty list's file beside it, and a row about a file has an empty list; the
-// first rows are about both, and the file is the list's.
-const LISTS: [Row; 11] = [
-    Row(0, 6, 3, 8, 4, 0x03000505, 4, 3),
-    Row(300, 0, 1, 8, 3, 0x01ac02, 3, 1),
-    Row(0, 0, 0, 8, 1, 0x00, 1, 0),
-    Row(6, 0, 2, 8, REFUSED + 8, 0x00, 1, 0),
-    Row(1073741824, 0, 1, 8, REFUSED + 8, 0x00, 1, 0),
-    Row(300, 0, 1, 2, REFUSED + 9, 0x00, 1, 0),
-    Row(0, 0, 0, 1, 1, 0x01, 1, REFUSED + 10),
-    Row(0, 0, 0, 1, 1, 0x018000, 3, REFUSED + 11),
-    Row(0, 0, 0, 1, 1, 0x018080808004, 6, REFUSED + 12),
-    Row(0, 0, 0, 1, 1, 0x0000, 2, REFUSED + 13),
-    Row(0, 0, 0, 0, REFUSED + 9, 0x0105, 2, REFUSED + 14),
-];
-
-fn of_list(i: usize) -> Row {
-    LISTS[i % 11]
-}
-
-// `first` and what is so far apart, in every cell.
-fn rise(list: &mut [u32], first: usize, apart: usize) {
-    let mut p = first;
-    let mut i: usize = 0;
-    while i < list.len() {
-        list[i] = small(p);
-        p = plus(p, apart);
-        i += 1;
-    }
-}
-
-// A case of the position list file.
-fn file(i: usize, x: usize, s: &mut [u8; 813], list: &mut [u32; 4400]) -> bool {
-    let r = of_list(i);
-    rise(list, r.0, r.1);
-    let written = files::written(cells::part32(list, r.2), r.3, x, s);
-    // the naive file, which the library's was compared with
-    put_digits(s, 0, r.5, r.6 % 8 * 8);
-    let same = agree(s, 0, FILE * 8, r.6 % 8 * 8);
-    let read = files::read(part(s, 0, r.6), r.3, x, list);
-    written.good
-        & (written.number == r.4)
-        & read.good
-        & (read.number == r.7)
-        & ((2 < i) | (same & listed(list, r.2, r.0, r.1)))
-}
-
 // A case over a buffer of zeros.
-pub(crate) fn one(
-    i: usize,
-    x: usize,
-    s: &mut [u8; 813],
-    list: &mut [u32; 4400],
-    scratch: &mut [u64; 4226],
-) -> bool {
+pub(crate) fn one(i: usize, x: usize, s: &mut [u8; 813], list: &mut [u32; 4400]) -> bool {
     if i < 36 {
-        return search(i, x, s, list, scratch);
+        return search(i, x, s, list);
     }
     if i < 48 {
-        return refusal(i, x, s, list, scratch);
+        return refusal(i, x, s, list);
     }
-    if i < 53 {
-        return hash(i - 48, s);
-    }
-    packed::fill(s, x);
-    file(i - 53, x, s, list)
+    hash(i - 48, s)
 }

@@ -2,22 +2,22 @@
 // that the search's own check serves, of a call whose other conditions do not hold.
 use crate::call::Call;
 use crate::call::number_of;
-use crate::draw::choose;
-use crate::draw::draw;
 use crate::drawn::pattern_length;
 use crate::drawn::repeat;
 use crate::naive;
-use crate::number::ceiling;
-use crate::number::least_of;
-use crate::number::minus;
-use crate::number::plus;
-use crate::number::small;
-use crate::packed;
-use crate::packed::TEXT;
-use crate::packed::TEXT_BIT;
 use bits::Place;
 use bits::eight;
 use bits::eight::Eight;
+use draws::draw::choose;
+use draws::draw::draw;
+use draws::number::ceiling;
+use draws::number::least_of;
+use draws::number::minus;
+use draws::number::plus;
+use draws::number::small;
+use draws::packed;
+use draws::packed::TEXT;
+use draws::packed::TEXT_BIT;
 use search::hash_value;
 use search::hash_value::HashAnswer;
 

@@ -1,4 +1,4 @@
--- `trials::drawn::joined` is safe and ends. The calls that are left get fewer; the lengths of what it writes stay.
+-- `trials::drawn::joined` is safe and ends. The calls that are left get fewer; the length of the list stays.
 -- Assumes nothing.
 use mathlib.Core.Path.{_≡_}
 use lib.ListN.{length}
@@ -8,10 +8,16 @@ use Rattle.trials.proofs.drawn.joined.Tie as tie
 
 abbrev Inv-loop : tie.InvT-loop
 Inv-loop first calls x s list₀ scratch₀ c₀ y₀ good₀ count₀ left₀ list scratch c y good count left =
-    (length list ≡ length list₀) × (length scratch ≡ length scratch₀)
+    length list ≡ length list₀
 
 abbrev μ-loop : tie.MeasureT-loop
 μ-loop first calls x s list₀ scratch₀ c₀ y₀ good₀ count₀ left₀ list scratch c y good count left = left
+
+slice-aggregate-fill64 : tie.Need-slice-aggregate-fill64 Inv-loop μ-loop
+slice-aggregate-fill64 c = search needs
+
+fill64-requires : tie.Need-fill64-requires Inv-loop μ-loop
+fill64-requires c κs = search needs
 
 loop-holds : tie.Need-loop-holds Inv-loop μ-loop
 loop-holds c = search needs
@@ -58,9 +64,6 @@ every-requires c κs = search needs
 same-length : tie.Need-same-length Inv-loop μ-loop
 same-length c = search needs
 
-same-length-2 : tie.Need-same-length-2 Inv-loop μ-loop
-same-length-2 c = search needs
-
 returns : tie.Need-returns Inv-loop μ-loop
 returns c = search needs
 
@@ -70,6 +73,8 @@ joined-spec =
     (tie.spec
     Inv-loop
     μ-loop
+    slice-aggregate-fill64
+    fill64-requires
     loop-holds
     next-requires
     next-call-requires
@@ -85,5 +90,4 @@ joined-spec =
     loop-again
     every-requires
     same-length
-    same-length-2
     returns)

@@ -1,0 +1,75 @@
+// Cells of 32 and of 64 bits: the list and the scratch, with a content before a call that is known afterwards.
+use crate::draw::content;
+use crate::number::least_of;
+use crate::number::plus;
+use crate::number::small;
+
+// What lies out of range is read as 0 and not written.
+pub fn get32(s: &[u32], i: usize) -> u32 {
+    if i < s.len() { s[i] } else { 0 }
+}
+
+pub fn put32(s: &mut [u32], i: usize, v: u32) {
+    if i < s.len() {
+        s[i] = v;
+    }
+}
+
+// The first k cells, or all.
+pub fn part32(s: &[u32], k: usize) -> &[u32] {
+    let end = least_of(k, s.len());
+    &s[0..end]
+}
+
+pub fn fill32(s: &mut [u32], x: usize) {
+    let mut i: usize = 0;
+    while i < s.len() {
+        s[i] = small(content(x, i));
+        i += 1;
+    }
+}
+
+pub fn fill64(s: &mut [u64], x: usize) {
+    let mut i: usize = 0;
+    while i < s.len() {
+        s[i] = content(x, i) as u64;
+        i += 1;
+    }
+}
+
+// Whether the cells from `from` on are as they were filled.
+pub fn stay32(s: &[u32], from: usize, x: usize) -> bool {
+    let mut i = from;
+    while i < s.len() {
+        if s[i] != small(content(x, i)) {
+            return false;
+        }
+        i += 1;
+    }
+    true
+}
+
+pub fn stay64(s: &[u64], from: usize, x: usize) -> bool {
+    let mut i = from;
+    while i < s.len() {
+        if s[i] != content(x, i) as u64 {
+            return false;
+        }
+        i += 1;
+    }
+    true
+}
+
+// Whether the first cells, so many, hold `first` and what is so far apart.
+pub fn listed(list: &[u32], hits: usize, first: usize, apart: usize) -> bool {
+    let mut p = first;
+    let mut i: usize = 0;
+    while i < hits {
+        if get32(list, i) != small(p) {
+            return false;
+        }
+        p = plus(p, apart);
+        i += 1;
+    }
+    true
+}
