@@ -5,3 +5,4 @@ pub mod cells;
 pub mod draw;
 pub mod number;
 pub mod packed;
+pub mod report;

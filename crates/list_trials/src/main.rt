@@ -7,7 +7,7 @@ mod named;
 use draws::draw;
 use draws::number;
 use draws::packed;
-use libc::STDOUT_FILENO;
+use draws::report;
 
 // A case of a kind, by its number and a drawn one, over a buffer of drawn bytes.
 fn one(kind: usize, i: usize, x: usize) -> bool {
@@ -32,7 +32,7 @@ fn many(kind: usize, count: usize) -> usize {
     wrong
 }
 
-// The kinds: where each one's name ends, and how many cases it has. A name has 32 bytes of room.
+// The kinds: their names, and where each one's name ends and how many cases it has.
 const NAMES: [u8; 96] = *b"\
     position lists written          \
     position files read             \
@@ -40,31 +40,13 @@ const NAMES: [u8; 96] = *b"\
 
 const COUNTS: [usize; 6] = [23, 60000, 20, 60000, 6, 11];
 
-// Prints a name and a count.
-fn line(name: &[u8], count: usize) {
-    io::write_all(STDOUT_FILENO, name);
-    io::print_decimal(STDOUT_FILENO, count as u64);
-    io::write_all(STDOUT_FILENO, b"\n");
-}
-
-// The line of a kind; the answer is how many cases it has.
-fn kind_line(kind: usize, counts: &[usize]) -> usize {
-    let k = kind % 16;
-    let count = draw::entry(counts, 2 * k + 1);
-    line(
-        packed::part(&NAMES, 32 * k, draw::entry(counts, 2 * k)),
-        count,
-    );
-    count
-}
-
 fn main() {
     let mut wrong: usize = 0;
     let mut kind: usize = 0;
     while kind < 3 {
-        let count = kind_line(kind, &COUNTS);
+        let count = report::kind_line(&NAMES, &COUNTS, kind);
         wrong = number::plus(wrong, many(kind, count));
         kind += 1;
     }
-    line(b"disagreements ", wrong);
+    report::line(b"disagreements ", wrong);
 }

@@ -9,7 +9,7 @@ mod single;
 use draws::draw;
 use draws::number;
 use draws::packed;
-use libc::STDOUT_FILENO;
+use draws::report;
 
 // A case of a kind, by its number and a drawn one, over a buffer of bytes and a list. The buffer is drawn, but zero for the
 // named cases.
@@ -40,7 +40,7 @@ fn many(kind: usize, count: usize) -> usize {
     wrong
 }
 
-// The kinds: where each one's name ends, and how many cases it has. A name has 32 bytes of room.
+// The kinds: their names, and where each one's name ends and how many cases it has.
 const NAMES: [u8; 288] = *b"\
     plain, whole                    \
     hash, whole                     \
@@ -73,31 +73,13 @@ const COUNTS: [usize; 18] = [
     53,
 ];
 
-// Prints a name and a count.
-fn line(name: &[u8], count: usize) {
-    io::write_all(STDOUT_FILENO, name);
-    io::print_decimal(STDOUT_FILENO, count as u64);
-    io::write_all(STDOUT_FILENO, b"\n");
-}
-
-// The line of a kind; the answer is how many cases it has.
-fn kind_line(kind: usize, counts: &[usize]) -> usize {
-    let k = kind % 16;
-    let count = draw::entry(counts, 2 * k + 1);
-    line(
-        packed::part(&NAMES, 32 * k, draw::entry(counts, 2 * k)),
-        count,
-    );
-    count
-}
-
 fn main() {
     let mut wrong: usize = 0;
     let mut kind: usize = 0;
     while kind < 9 {
-        let count = kind_line(kind, &COUNTS);
+        let count = report::kind_line(&NAMES, &COUNTS, kind);
         wrong = number::plus(wrong, many(kind, count));
         kind += 1;
     }
-    line(b"disagreements ", wrong);
+    report::line(b"disagreements ", wrong);
 }

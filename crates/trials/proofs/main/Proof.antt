@@ -6,16 +6,19 @@ use Rattle.trials.proofs.main.Statement.{statement}
 use Rattle.trials.proofs.main.Tie as tie
 
 abbrev Inv-loop : tie.InvT-loop
-Inv-loop wrong₀ kind₀ t4 t5 wrong kind = Unit
+Inv-loop wrong₀ kind₀ t4 t5 t6 wrong kind = Unit
 
 abbrev μ-loop : tie.MeasureT-loop
-μ-loop wrong₀ kind₀ t4 t5 wrong kind = 11 - kind
+μ-loop wrong₀ kind₀ t4 t5 t6 wrong kind = 11 - kind
 
 loop-holds : tie.Need-loop-holds Inv-loop μ-loop
 loop-holds c = search needs
 
 slice-aggregate-kind-line : tie.Need-slice-aggregate-kind-line Inv-loop μ-loop
 slice-aggregate-kind-line c = search needs
+
+slice-aggregate-kind-line-2 : tie.Need-slice-aggregate-kind-line-2 Inv-loop μ-loop
+slice-aggregate-kind-line-2 c = search needs
 
 kind-line-requires : tie.Need-kind-line-requires Inv-loop μ-loop
 kind-line-requires c κs = search needs
@@ -52,6 +55,7 @@ main-spec =
     μ-loop
     loop-holds
     slice-aggregate-kind-line
+    slice-aggregate-kind-line-2
     kind-line-requires
     many-requires
     plus-requires
