@@ -1,10 +1,9 @@
 -- What the calls below promise gives what the calls for C and Rust promise.
 -- Assumes nothing.
 use Prim.Native.Nat.{ℕ, _≤_, _<_}
-use mathlib.Core.Path.{_≡_, refl, sym, _∙_, ap}
+use mathlib.Core.Path.{_≡_, refl, _∙_}
 use mathlib.Core.List.{List, [], _∷_}
 use lib.ListN.{length}
-use Rattle.rules.specs.Machine.{Run}
 use Rattle.rules.specs.declared.Method.{Method}
 use Rattle.search.specs.declared.Outcome.{Outcome}
 use Rattle.search.specs.declared.Outcome.the-variants.{Accepted, Refused}
@@ -14,7 +13,7 @@ use Rattle.positions.specs.Encode.{encode}
 use Rattle.positions.specs.Decode.{decode}
 use Rattle.positions.specs.Promise.{refused, writeAnswer, leaves, readAnswer, readCells}
 use Rattle.capi.specs.Told.{Told, gives, refuses, fewAnswerCells, unknownMethod, unlessCells, Tells}
-use Rattle.capi.specs.Scan.{methodNamed, known, unknown, Call, requestOf, searchVerdict, runTells, listAfter, ScratchAfter, Searches}
+use Rattle.capi.specs.Scan.{methodNamed, known, unknown, Call, requestOf, searchVerdict, Searches}
 use Rattle.capi.specs.ListFile.{countTells, writeVerdict, ListWritten, readVerdict, ListRead}
 use Rattle.capi.specs.Inner.{outcomeTells}
 use Rattle.capi.proofs.Telling.{few-cells, enough-cells, refusing}

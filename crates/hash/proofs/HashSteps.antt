@@ -2,9 +2,9 @@
 -- pattern stands.
 -- Assumes nothing.
 use Prim.Native.Nat.{ℕ, _+_, _-_, _*_, _^_, _≤_, _<_, min}
-use mathlib.Core.Path.{_≡_, refl, sym, ap, subst, _∙_}
+use mathlib.Core.Path.{_≡_, refl, sym, ap, _∙_}
 use mathlib.Core.Bool.{Bool, true, false, cond}
-use mathlib.Core.List.{List, [], _∷_, _++_}
+use mathlib.Core.List.{List, []}
 use native.Mathlib.Numerals.{one-add}
 use native.Mathlib.Decide.{decLe}
 use native.Mathlib.Omega.{arith}
@@ -19,7 +19,7 @@ use Rattle.rules.specs.Pattern.{Pattern}
 use Rattle.rules.specs.Occurrence.{places, matches}
 use Rattle.rules.specs.Hash.{meets, hashOf, hashAgain, lastEight, hashFinds, hashNext}
 use Rattle.rules.specs.Step.{finds, ahead, next}
-use Rattle.matcher.specs.Progress.{textOf, Ready, GoodPattern, Stepped, Writing}
+use Rattle.matcher.specs.Progress.{Ready, GoodPattern, Stepped}
 use Rattle.rules.proofs.Occurrence.{occurs-inside}
 use Rattle.rules.proofs.Hash.{LeastMeeting, again-least, hash-compares}
 use Rattle.matcher.proofs.Writing.{stepped-none, stepped-one, stepped-no-cell}

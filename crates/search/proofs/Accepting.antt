@@ -2,14 +2,14 @@
 -- Assumes nothing.
 use mathlib.Core.Path.{_≡_, refl, sym, ap, _∙_}
 use mathlib.Core.Bool.{Bool, true, false, _||_}
-use mathlib.Core.List.{List, [], _∷_, _++_}
-use Prim.Native.Nat.{ℕ, zero, suc, _+_, _-_, _^_, _≤_, _<_}
+use mathlib.Core.List.{List}
+use Prim.Native.Nat.{ℕ, _+_, _-_, _^_, _≤_, _<_}
 use native.Mathlib.Omega.{arith}
 use borrow.Author.Tests.{ltb-false, eqb-false}
 use lib.Dec.{ltb, eqb}
 use lib.ListN.{length, drop}
 use lib.Seq.{drop-drop}
-use Rattle.bits.specs.Packed.{Packed, bytesFor}
+use Rattle.bits.specs.Packed.{Packed}
 use Rattle.rules.specs.declared.Method.{Method}
 use Rattle.rules.specs.declared.Method.the-variants.{Plain, Hash, Skip, Wide}
 use Rattle.search.specs.declared.Answer.{Answer}
@@ -19,7 +19,7 @@ use Rattle.search.specs.declared.check.Checked.the-variants.{Passed, Ref
 use Rattle.rules.specs.Pattern.{Pattern}
 use Rattle.rules.specs.Occurrence.{places}
 use Rattle.rules.specs.Step.{unfit}
-use Rattle.rules.specs.Machine.{run, done, stopped}
+use Rattle.rules.specs.Machine.{run, stopped}
 use Rattle.search.specs.Verdict.{Request, rows, AllFail, refused, machine, verdict, scratchCells, numberOfRefusal, Carries}
 use Rattle.matcher.specs.Tables.{cellsFor, Prepared}
 use Rattle.matcher.specs.Progress.{GoodPattern}

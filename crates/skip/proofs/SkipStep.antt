@@ -4,24 +4,23 @@ use Prim.Native.Nat.{ℕ, _+_, _-_, _*_, _/_, _%_, _≤_, _<_, min, _^_}
 use mathlib.Core.Path.{_≡_, refl, sym, ap, _∙_}
 use mathlib.Core.Bool.{Bool, true, false}
 use mathlib.Core.List.{List, [], _∷_, _++_}
-use native.Mathlib.Nat.{sub-zero}
 use native.Mathlib.Omega.{arith}
 use lib.ListN.{length, set}
 use Rattle.bits.specs.Packed.{Packed}
 use Rattle.rules.specs.declared.Method.the-variants.{Skip}
 use Rattle.rules.specs.Ranges.{keep}
 use Rattle.rules.specs.Pattern.{Pattern}
-use Rattle.rules.specs.Occurrence.{places, matches, occurs, occurrences}
+use Rattle.rules.specs.Occurrence.{places, occurs, occurrences}
 use Rattle.rules.specs.Skip.{lastByte, skipFinds}
 use Rattle.rules.specs.Step.{finds, ahead, next}
-use Rattle.matcher.specs.Tables.{chained, lastShown}
-use Rattle.matcher.specs.Progress.{textOf, Stepped, Writing, Advanced}
+use Rattle.matcher.specs.Tables.{chained}
+use Rattle.matcher.specs.Progress.{Stepped, Writing, Advanced}
 use Rattle.rules.proofs.Ranges.{among-same}
-use Rattle.rules.proofs.Occurrence.{occurs-inside, occurrences-append, occurrences-one}
+use Rattle.rules.proofs.Occurrence.{occurrences-append, occurrences-one}
 use Rattle.matcher.proofs.Advancing.{advanced-step}
 use Rattle.matcher.proofs.Writing.{writing-more, writing-length, stepped-whole, stepped-full}
-use Rattle.rules.proofs.Skip.{reaches-byte, contains-byte, shown-occurs}
-use Rattle.skip.proofs.SkipChain.{chained-span, byteOf, walk-start}
+use Rattle.rules.proofs.Skip.{reaches-byte, shown-occurs}
+use Rattle.skip.proofs.SkipChain.{chained-span}
 
 module _ (t : Packed) (w : Pattern) where
   -- the occurrences from s to e, from an occurrence a among them on
