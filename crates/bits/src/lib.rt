@@ -1,7 +1,8 @@
 // Reading bits of a packed run: the two units of position, one bit, eight bits with their refusals, and loads of
 // up to 64 bits for the matchers. The definitions that the contracts cite are in specs/Packed.antt and specs/Eight.antt.
 ghost use mathlib.Core.Path.{_≡_};
-ghost use Prim.Native.Nat.{_*_, _/_, _%_, _^_, _<_};
+ghost use Prim.Native.Nat.{_*_, _/_, _%_, _^_, _≤_, _<_};
+ghost use Rattle.bits.specs.Packed.{bytesFor};
 
 pub mod bit;
 pub mod eight;
@@ -37,4 +38,12 @@ impl ByteNo {
     {
         Place((self.0 * 8) as u32)
     }
+}
+
+// How many bytes so many bits take, document 01's ceil(n/8).
+pub fn bytes_for(n: u64) -> u64
+    requires { ⌜ n ≤ 2 ^ 32 ⌝ }
+    ensures { λ r. ⌜ r ≡ bytesFor n ⌝ }
+{
+    (n + 7) / 8
 }
