@@ -2,4 +2,5 @@
 pub mod WideTables
 pub mod WideBytes
 pub mod WideMoves
+pub mod WideScan
 pub mod WideFlags

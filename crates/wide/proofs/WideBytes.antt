@@ -100,22 +100,22 @@ module _ (w : Pattern) where
           ∙ f j l (omega arith)
           ∙ sym (ap bitFor (passes-first w c (q + j) (omega arith)))
 
-  -- the pattern's byte from q on, and what lies after the pattern
-  module _ (q pad : ℕ) (p : Padding (w .count) q pad) (whole : q % 8 ≡ 0) (small : getD (w .bytes) (q / 8) 0 < 256) where
+  -- the pattern's byte from q on, byte number k, and what lies after the pattern
+  module _ (q pad : ℕ) (p : Padding (w .count) q pad) (whole : q % 8 ≡ 0) (k : ℕ) (held : k ≡ q / 8) (small : getD (w .bytes) k 0 < 256) where
     b : ℕ
-    b = getD (w .bytes) (q / 8) 0
+    b = getD (w .bytes) k 0
 
     bits : (j : ℕ) → j < 8 → bitOf 8 b j ≡ bitAt (w .bytes) (q + j)
     unfolding b
     bits j l =
-        let there : q / 8 * 8 ≡ q = omega arith in
-        sym (ap (λ (n : ℕ). bitAt (w .bytes) (n + j)) (sym there) ∙ bit-in-byte (w .bytes) (q / 8) l)
+        let there : k * 8 ≡ q = omega arith in
+        sym (ap (λ (n : ℕ). bitAt (w .bytes) (n + j)) (sym there) ∙ bit-in-byte (w .bytes) k l)
 
-    pub enters-one : Enters w 1 q (bitOr (getD (w .bytes) (q / 8) 0) pad)
+    pub enters-one : Enters w 1 q (bitOr (getD (w .bytes) k 0) pad)
     unfolding b
     enters-one = enters-padded 1 q b pad small p (λ j l u. bits j l ∙ agrees-one (q + j))
 
-    pub enters-zero : Enters w 0 q (bitOr (255 - getD (w .bytes) (q / 8) 0) pad)
+    pub enters-zero : Enters w 0 q (bitOr (255 - getD (w .bytes) k 0) pad)
     unfolding b
     enters-zero =
         enters-padded 0 q (255 - b) pad (omega arith) p
@@ -184,7 +184,7 @@ module _ (w : Pattern) where
 
 pub entered-none : (cells : List ℕ) (q z o y x : ℕ) → Entered cells cells q 0 z o y x
 entered-none cells q z o y x =
-    record { zeros = λ r l. absurd (omega arith); ones = λ r l. absurd (omega arith); below = λ i l. refl; behind = λ i l. refl; size = refl }
+    record { zeros = λ r l. absurd (omega arith); ones = λ r l. absurd (omega arith); below = λ i l. refl; after = λ i l. refl; size = refl }
 
 module _ (before cells : List ℕ) (q k z o y x : ℕ) (f : Entered before cells q k z o y x) (room : 2 * (q + k) + 2 ≤ length before) where
   abbrev first : List ℕ
@@ -221,10 +221,10 @@ module _ (before cells : List ℕ) (q k z o y x : ℕ) (f : Entered before cells
         zeros = λ r l. at-zero r (eq-or-below (omega arith));
         ones = λ r l. at-one r (eq-or-below (omega arith));
         below = λ i l. others i (omega arith) ∙ f .below i l;
-        behind = λ i l.
+        after = λ i l.
             drop-set-lt i first (2 * q + 2 * k + 1) (moved o x k) (omega arith)
             ∙ drop-set-lt i cells (2 * q + 2 * k) (moved z y k) (omega arith)
-            ∙ f .behind i (omega arith);
+            ∙ f .after i (omega arith);
         size = length-set first (2 * q + 2 * k + 1) (moved o x k) ∙ length-set cells (2 * q + 2 * k) (moved z y k) ∙ f .size;
       }
 
@@ -253,5 +253,5 @@ module _ (w : Pattern) (before cells next : List ℕ) (q k z o y x : ℕ) (f : F
       record {
         flags = λ p c i l u h. flag-made p c i l u h (decLe q p) (bit-or-bit c u);
         size = n .size ∙ f .size;
-        behind = n .behind (2 * (63 + w .count)) (omega arith) ∙ f .behind;
+        after = n .after (2 * (63 + w .count)) (omega arith) ∙ f .after;
       }

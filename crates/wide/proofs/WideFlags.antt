@@ -1,88 +1,72 @@
--- Laws of standing flags: each window bit leaves those of occurrences; taken lowest first they give every occurrence of a
--- step; and what a step finds is the occurrences of its 64 places below E.
+-- Laws of standing flags: those that a scan leaves have every occurrence of a step, taken lowest first they give it, and what
+-- a step finds is the occurrences of its 64 places below E.
 -- Assumes nothing.
 use mathlib.Core.Path.{_≡_, refl, sym, ap, ap₂, _∙_}
 use mathlib.Core.Bool.{Bool, true, false, _&&_}
 use mathlib.Core.List.{List, [], _∷_, _++_}
-use Prim.Native.Nat.{ℕ, _+_, _-_, _*_, _/_, _^_, _≤_, _<_, min}
-use native.Mathlib.Nat.{add-assoc}
+use Prim.Native.Nat.{ℕ, _+_, _-_, _/_, _%_, _^_, _≤_, _<_, min}
+use native.Mathlib.Nat.{mod-lt, mod-le}
 use native.Mathlib.Decide.{decLe}
 use native.Mathlib.Omega.{arith}
-use lib.Bits.{bitAnd}
 use lib.Count.{trailingZeros}
-use lib.Dec.{leb}
-use lib.ListN.{length, getD, set}
-use lib.Pow.{shr-lt}
-use borrow.Author.Tests.{leb-true}
-use Rattle.bits.specs.Packed.{Packed, bitAt, bitsAt, bitOf, weight}
-use Rattle.bits.proofs.Weight.{weight-and, weight-shr}
-use Rattle.bits.proofs.Run.{bit-of-bits, bit-lt}
+use lib.ListN.{length, set}
+use lib.Pow.{pow-pos, shr-lt}
+use borrow.Author.Tests.{lt-ltb, le-ltb}
+use Rattle.bits.specs.Packed.{Packed, weight}
+use Rattle.bits.proofs.Weight.{weight-out, weight-shr, weight-mod, same-weights}
 use Rattle.rules.specs.declared.Method.the-variants.{Wide}
 use Rattle.rules.specs.Ranges.{keep}
 use Rattle.rules.specs.Pattern.{Pattern}
 use Rattle.rules.specs.Occurrence.{places, matches, occurs, occurrences}
 use Rattle.rules.specs.Wide.{wideFinds}
 use Rattle.rules.specs.Step.{finds, next}
-use Rattle.matcher.specs.Tables.{passes, WideTables}
+use Rattle.matcher.specs.Tables.{WideTables}
 use Rattle.matcher.specs.Progress.{textOf, Writing, Stepped}
-use Rattle.wide.specs.Flags.{Stand, Keeps, Leaves, Flagged, Scanned, stop}
-use Rattle.rules.proofs.Ranges.{and-left, and-right, not-true-false, among-same}
-use Rattle.rules.proofs.Occurrence.{matches-at, occurs-inside, none-from-places, occurrences-none, occurrences-append, occurrences-one, occurrences-further, occurrences-to}
-use Rattle.rules.proofs.Wide.{flagged-occurs}
+use Rattle.wide.specs.Flags.{standsAfter, Scanned, Stand, Flagged, stop}
+use Rattle.rules.proofs.Ranges.{and-both, not-true-false, among-same}
+use Rattle.rules.proofs.Occurrence.{occurs-inside, none-from-places, occurrences-none, occurrences-append, occurrences-one, occurrences-further, occurrences-to}
+use Rattle.rules.proofs.Wide.{stands-matches, flagged-occurs}
 use Rattle.matcher.proofs.Writing.{writing-none, writing-more, stepped-whole, stepped-full}
-use Rattle.wide.proofs.WideTables.{bitFor, weight-zero, weight-ones, trailing-below, trailing-lt, passes-to}
+use Rattle.wide.proofs.WideTables.{bitFor, weight-zero, trailing-below, trailing-lt}
+use Rattle.wide.proofs.WideScan.{stands-after}
 
--- One window bit after the other
+-- the text's bit count plays no part in a comparison
+counted : (t : Packed) (w : Pattern) (p : ℕ) → matches (textOf (t .bytes) 0) w p ≡ matches t w p
+unfolding matches
+counted t w p = refl
 
--- the flags left by the first k of the eight bits
-abbrev pub KeepsTo : List ℕ → ℕ → ℕ → ℕ → ℕ → ℕ → Type 0
-KeepsTo cells q x f k r =
-    (i : ℕ) → weight f i ≡ 1 → ((j : ℕ) → j < k → weight (getD cells (2 * (q + j) + bitOf 8 x j) 0) i ≡ 1) → weight r i ≡ 1
+-- flags that are set nowhere from d on
+few-flags : (k d f : ℕ) → f < 2 ^ k → ((i : ℕ) → d ≤ i → i < k → weight f i ≡ 0) → f < 2 ^ d
+few-flags k d f h none = rw same (mod-lt f (pow-pos d))
+  where
+    same : f ≡ f % 2 ^ d
+    same =
+        same-weights k f (f % 2 ^ d) h (omega (arith, mod-le f (2 ^ d)))
+        (λ i l. elim (decLe d i) [
+          | yes u ↦ none i u l ∙ sym (weight-out {x = f % 2 ^ d} {w = d} {i = i} (mod-lt f (pow-pos d)) u)
+          | no u ↦ sym (weight-mod f {w = d} {i = i} (omega arith))
+        ])
 
-pub keeps-none : (cells : List ℕ) (q x f : ℕ) → KeepsTo cells q x f 0 f
-keeps-none cells q x f i h g = h
-
-pub keeps-more : (cells : List ℕ) (q x f k r : ℕ) → KeepsTo cells q x f k r
-    → KeepsTo cells q x f (k + 1) (bitAnd r (getD cells (2 * (q + k) + bitOf 8 x k) 0))
-keeps-more cells q x f k r u i h g =
-    let one : weight r i ≡ 1 = u i h (λ j l. g j (omega arith)) in
-    let two : weight (getD cells (2 * (q + k) + bitOf 8 x k) 0) i ≡ 1 = g k (omega arith) in
-    weight-and r (getD cells (2 * (q + k) + bitOf 8 x k) 0) i ∙ ap₂ min one two
+-- What settling needs of a scan: the flags of occurrences stand, and none of a place that the step does not decide.
+pub flagged-of : (t : Packed) (w : Pattern) (cells : List ℕ) (s f : ℕ) → f < 2 ^ 64 → WideTables w cells → Scanned t (w .count) cells s f → Flagged t w s f
+unfolding Stand
+flagged-of t w cells s f fits tables z =
+    record {
+      stand = λ p l u h.
+          z .flags w refl tables (p - s) (omega arith)
+          ∙ ap bitFor (and-both (lt-ltb (s + (p - s)) (places t w) (omega arith))
+          (stands-after t w s (z .made) (p - s) (omega arith) (stands-matches t w s p l (omega arith) (omega arith) ∙ sym (counted t w p) ∙ h)));
+      inside = few-flags 64 (stop t w s - s) f fits (λ i l u.
+          z .flags w refl tables i u
+          ∙ ap (λ (b : Bool). bitFor (b && standsAfter t w s (z .made) i)) (le-ltb (s + i) (places t w) (omega arith)));
+    }
 
 -- the pattern stands at no place from a on and before b
 abbrev pub NoneFrom : Packed → Pattern → ℕ → ℕ → Type 0
 NoneFrom t w a b = (p : ℕ) → a ≤ p → p < b → matches t w p ≡ false
 
 module _ (t : Packed) (w : Pattern) where
-  -- Flags of the 64 places from s on
-
-  stand-all : (s : ℕ) → Stand t w s (s + 64) 18446744073709551615
-  unfolding Stand
-  stand-all s p l u e = weight-ones 64 (p - s) (omega arith)
-
-  -- a window bit leaves the flag of an occurrence
-  passes-match : (s p q : ℕ) → s ≤ p → matches t w p ≡ true → passes w (bitAt (t .bytes) (s + q)) q (p - s) ≡ true
-  passes-match s p q l e =
-      passes-to w (bitAt (t .bytes) (s + q)) q (p - s)
-      (λ a b.
-      let there : p + (q - (p - s)) ≡ s + q = omega arith in
-      rw there at (matches-at t w p e (q - (p - s)) b))
-
-  stand-keep : (cells : List ℕ) (s q f r : ℕ) → WideTables w cells → q + 8 ≤ 63 + w .count
-      → Keeps cells q (bitsAt (t .bytes) (s + q) 8) f r → Stand t w s (s + 64) f → Stand t w s (s + 64) r
-  unfolding Stand Keeps
-  stand-keep cells s q f r tables h k st p l u m =
-      k (p - s) (st p l u m) (λ j b.
-      let bit : bitOf 8 (bitsAt (t .bytes) (s + q) 8) j ≡ bitAt (t .bytes) (s + (q + j)) = bit-of-bits (t .bytes) (s + q) b ∙ ap (bitAt (t .bytes)) (add-assoc s q j) in
-      ap (λ (c : ℕ). weight (getD cells (2 * (q + j) + c) 0) (p - s)) bit
-      ∙ tables .flags-are (q + j) (bitAt (t .bytes) (s + (q + j))) (p - s) (omega arith) (bit-lt (t .bytes) (s + (q + j))) (omega arith)
-      ∙ ap bitFor (passes-match s p (q + j) l m))
-
   -- Flags of the places from a on and before b
-
-  pub stand-less : (a b d f : ℕ) → d ≤ b → Stand t w a b f → Stand t w a d f
-  unfolding Stand
-  stand-less a b d f h st p l u m = st p l (omega arith) m
 
   none-where-unset : (a b f p : ℕ) → Stand t w a b f → a ≤ p → p < b → weight f (p - a) ≡ 0 → matches t w p ≡ false
   unfolding Stand
@@ -109,63 +93,7 @@ module _ (t : Packed) (w : Pattern) where
       let there : z + (p - (a + z)) ≡ p - a = omega arith in
       weight-shr f z (p - (a + z)) ∙ ap (weight f) there ∙ st p (omega arith) u m
 
--- Flags that a scan leaves
-
-pub both-le : (a b c d : ℕ) → (leb a b && leb c d) ≡ true → (a ≤ b) × (c ≤ d)
-both-le a b c d e = (leb-true a b (and-left (leb a b) (leb c d) e), leb-true c d (and-right (leb a b) (leb c d) e))
-
-module _ (t : Packed) (m : ℕ) (cells : List ℕ) (s f : ℕ) where
-  pub leaves-same : Leaves t m cells s f f
-  unfolding Leaves
-  leaves-same w e tables st = st
-
-  pub leaves-more : (g r : ℕ) → Leaves t m cells s f g → Leaves t m cells s g r → Leaves t m cells s f r
-  unfolding Leaves
-  leaves-more g r h k w e tables st = k w e tables (h w e tables st)
-
-  pub leaves-keep : (g r q : ℕ) → Leaves t m cells s f g → Keeps cells q (bitsAt (t .bytes) (s + q) 8) g r → q + 8 ≤ 63 + m → Leaves t m cells s f r
-  unfolding Leaves
-  leaves-keep g r q h k l w e tables st = stand-keep t w cells s q g r tables (omega arith) k (h w e tables st)
-
--- What a scan gives
-
-module _ (bytes : List ℕ) (n m : ℕ) (cells : List ℕ) (s : ℕ) where
-  abbrev t : Packed
-  t = textOf bytes n
-
-  -- the last step: its places are those below E
-  pub scanned-end : (k : ℕ) → s + m ≤ n → s + 63 + m ≡ n + k → Scanned t m cells s (18446744073709551615 / 2 ^ k)
-  unfolding Stand
-  scanned-end k low e =
-      record {
-        flagged = λ w same tables.
-            let size : stop t w s - s ≡ 64 - k = omega arith in
-            record {
-              stand = λ p l u h. weight-shr 18446744073709551615 k (p - s) ∙ weight-ones 64 (k + (p - s)) (omega arith);
-              inside = rw size (shr-lt (64 - k) k (all (omega arith)));
-            };
-      }
-    where
-      all : k ≤ 64 → 18446744073709551615 < 2 ^ (64 - k + k)
-      all h = let whole : 64 - k + k ≡ 64 = omega arith in rw whole (omega arith)
-
-  -- the window lies whole in the text: all 64 places lie below E
-  pub scanned-whole : (f : ℕ) → s + 63 + m < n → f < 2 ^ 64 → Leaves (textOf bytes 0) m cells s 18446744073709551615 f → Scanned t m cells s f
-  unfolding Leaves
-  scanned-whole f inside fits leaves =
-      record {
-        flagged = λ w e tables.
-            let last : stop t w s ≡ s + 64 = omega arith in
-            let size : stop t w s - s ≡ 64 = omega arith in
-            record { stand = rw last (leaves w e tables (stand-all (textOf bytes 0) w s)); inside = rw size fits };
-      }
-
 -- What a step finds
-
--- the text's bit count plays no part in a comparison
-counted : (t : Packed) (w : Pattern) (p : ℕ) → matches (textOf (t .bytes) 0) w p ≡ matches t w p
-unfolding matches
-counted t w p = refl
 
 module _ (t : Packed) (w : Pattern) where
   pub none-occurs : (a b : ℕ) → NoneFrom (textOf (t .bytes) 0) w a b → (p : ℕ) → a ≤ p → p < b → occurs t w p ≡ false

@@ -147,10 +147,10 @@ module _ (w : Pattern) (c : ℕ) where
 pub record Filled (w : Pattern) (before cells : List ℕ) (q : ℕ) : Type 0 where
   pub flags : (p c i : ℕ) → p < q → c < 2 → i < 64 → weight (getD cells (2 * p + c) 0) i ≡ cond (passes w c p i) 1 0
   pub size : length cells ≡ length before
-  pub behind : drop (2 * (63 + w .count)) cells ≡ drop (2 * (63 + w .count)) before
+  pub after : drop (2 * (63 + w .count)) cells ≡ drop (2 * (63 + w .count)) before
 
 pub filled-none : (w : Pattern) (before : List ℕ) → Filled w before before 0
-filled-none w before = record { flags = λ p c i l. absurd (omega arith); size = refl; behind = refl }
+filled-none w before = record { flags = λ p c i l. absurd (omega arith); size = refl; after = refl }
 
 -- The last cell is not 0, so the cells are there.
 pub tables-long : (w : Pattern) (cells : List ℕ) → WideTables w cells → 2 * (63 + w .count) ≤ length cells

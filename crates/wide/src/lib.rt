@@ -12,13 +12,13 @@ use matcher::compare;
 use matcher::compare::Head;
 use rules::Method;
 ghost use mathlib.Core.Path.{_≡_};
-ghost use Prim.Native.Nat.{_+_, _*_, _%_, _^_, _≤_, _<_};
+ghost use Prim.Native.Nat.{_+_, _*_, _^_, _≤_, _<_};
 ghost use lib.ListN.{length};
-ghost use Rattle.bits.specs.Packed.{bytesFor, bitsAt};
+ghost use Rattle.bits.specs.Packed.{bytesFor};
 ghost use Rattle.rules.specs.Occurrence.{places};
 ghost use Rattle.rules.specs.Step.{next};
 ghost use Rattle.matcher.specs.Tables.{cellsFor, Prepared};
-ghost use Rattle.wide.specs.Flags.{Enters, Entered, Moves, Keeps, Leaves, Flagged, Scanned, Marked};
+ghost use Rattle.wide.specs.Flags.{StartsByte, Enters, Entered, Moves, within, second, Applies, Flagged, Scanned, Marked};
 ghost use Rattle.matcher.specs.Progress.{textOf, patternOf, HeadOf, GoodPattern, Ready, Stepped, Advanced};
 
 // Every flag stands.
@@ -33,7 +33,7 @@ struct Pair {
 // Flag 0 of each of the eight window bits from q on, the first bit highest. A bit of the pattern leaves it standing where
 // the window bit is the same; after the pattern every bit does.
 fn entering(word: &[u8], m: u32, q: u32) -> Pair
-    requires { ⌜ (bytesFor m ≤ length (now word)) × (q % 8 ≡ 0) × (q ≤ 4096) ⌝ }
+    requires { ⌜ (bytesFor m ≤ length (now word)) × StartsByte q × (q ≤ 4096) ⌝ }
     ensures { λ r. ⌜ Enters (patternOf (now (word .entry)) m) 0 q (r .zero) × Enters (patternOf (now (word .entry)) m) 1 q (r .one) ⌝ }
 {
     if m <= q {
@@ -42,7 +42,8 @@ fn entering(word: &[u8], m: u32, q: u32) -> Pair
             one: 255,
         };
     }
-    let b = word[(q / 8) as usize] as u64;
+    let at = Place(q).byte().0;
+    let b = word[at] as u64;
     let mut pad = 0u64;
     if m < q + 8 {
         pad = 255 >> (m - q);
@@ -109,10 +110,10 @@ fn move_of(m: u32, cells: &[u64], c: u32) -> u32
     64 + m - k
 }
 
-// The flags that the window's byte from bit q on leaves standing, by the cells of its eight bits.
+// The window's byte from bit q on is applied to the flags, by the cells of its eight bits.
 fn keep8(text: &[u8], cells: &[u64], s: Place, q: u32, flags: u64) -> u64
-    requires { ⌜ (q ≤ 4096) × (2 * (q + 8) ≤ length (now cells)) × (s .0 + q + 8 ≤ 2 ^ 30) × (s .0 + q + 8 ≤ length (now text) * 8) ⌝ }
-    ensures { λ r. ⌜ Keeps (now (cells .entry)) q (bitsAt (now (text .entry)) (s .0 + q) 8) flags r ⌝ }
+    requires { ⌜ (q ≤ 4096) × (2 * (q + 8) ≤ length (now cells)) × (s .0 + q + 8 ≤ 2 ^ 30) × (bytesFor (s .0 + q + 8) ≤ length (now text)) ⌝ }
+    ensures { λ r. ⌜ Applies (now (text .entry)) (now (cells .entry)) (s .0) (within q (q + 8)) flags r ⌝ }
 {
     let at = s.0;
     let from = q as usize;
@@ -127,11 +128,11 @@ fn keep8(text: &[u8], cells: &[u64], s: Place, q: u32, flags: u64) -> u64
     f
 }
 
-// The flags left by every second byte of the window from bit `from` on, as far as flag 63 needs.
+// Every second byte of the window from bit `from` on is applied to the flags, as far as flag 63 needs.
 fn pass(text: &[u8], m: u32, cells: &[u64], s: Place, from: u32, flags: u64) -> u64
-    requires { ⌜ (m ≤ 2048) × (2 * (63 + m) ≤ length (now cells)) × (from ≤ 8) ⌝ }
-    requires { ⌜ (s .0 + 63 + m ≤ 2 ^ 30) × (s .0 + 63 + m ≤ length (now text) * 8) ⌝ }
-    ensures { λ r. ⌜ Leaves (textOf (now (text .entry)) 0) m (now (cells .entry)) (s .0) flags r ⌝ }
+    requires { ⌜ (m ≤ 2048) × (2 * (63 + m) ≤ length (now cells)) × StartsByte from × (from ≤ 8) ⌝ }
+    requires { ⌜ (s .0 + 63 + m ≤ 2 ^ 30) × (bytesFor (s .0 + 63 + m) ≤ length (now text)) ⌝ }
+    ensures { λ r. ⌜ Applies (now (text .entry)) (now (cells .entry)) (s .0) (second m from) flags r ⌝ }
 {
     let mut f = flags;
     let mut q = from;
@@ -142,14 +143,14 @@ fn pass(text: &[u8], m: u32, cells: &[u64], s: Place, from: u32, flags: u64) -> 
     f
 }
 
-// Flags for the 64 places from s on. In a pattern below 64 bits no window bit speaks for all flags: every second byte, and
-// then the others. In a longer one those from 56 on speak for nearly all. Where at most one flag stands, and mostly none
-// does, further window bits would cost more than a comparison. The window is looked at only where it lies whole in the
-// text, so that no load needs a test for its end. In the last step, where it does not, the flags of all places that are left
-// stand.
+// Flags for the 64 places from s on, by rounds of window bits. In a pattern below 64 bits no window bit speaks for all flags:
+// the rounds are every second byte, and then the others. In a longer one the bits from 56 on speak for nearly all, and a
+// round is two bytes of them. Where at most one flag stands, and mostly none does, a further round would cost more than a
+// comparison. The window is looked at only where the text goes on after it, so that no load needs a test for the end. In the
+// last step, where it does not, no round is made, and the flags of all places that are left stand.
 fn scan(text: &[u8], n: u32, m: u32, cells: &[u64], s: Place) -> u64
     requires { ⌜ (m ≤ 2048) × (2 * (63 + m) ≤ length (now cells)) ⌝ }
-    requires { ⌜ (n ≤ 2 ^ 30) × (n ≤ length (now text) * 8) × (s .0 + m ≤ n) ⌝ }
+    requires { ⌜ (n ≤ 2 ^ 30) × (bytesFor n ≤ length (now text)) × (s .0 + m ≤ n) ⌝ }
     ensures { λ r. ⌜ Scanned (textOf (now (text .entry)) n) m (now (cells .entry)) (s .0) r ⌝ }
 {
     let at = s.0;

@@ -13,6 +13,7 @@ use Rattle.rules.proofs.Ranges.{and-left, and-right}
 use Rattle.matcher.specs.Progress.{textOf, patternOf, Advanced}
 use Rattle.matcher.proofs.Writing.{writing-length}
 use Rattle.matcher.proofs.Advancing.{advanced-none, advanced-step}
+use Rattle.wide.proofs.WideFlags.{flagged-of}
 use Rattle.wide.proofs.advance.Statement.{statement}
 use Rattle.wide.proofs.advance.Tie as tie
 
@@ -85,7 +86,7 @@ settle-requires c κs =
     let zero = c .before .before .before .before .before .before .before .before .move-of .ensures .move w refl (ready .tables) in
     let one = c .before .before .before .before .before .before .before .move-of2 .ensures .move w refl (ready .tables) in (
       omega (arith, tested (c .before .before .before), ready .pattern .some-bits, ready .pattern .few-bits, ready .few-bits, ready .inside, long (c .before .before .before .before .before .before), l .inv .writing .fits),
-      (s .pre .1 .0, (c .before .scan .ensures .flagged w refl (ready .tables), c .before .before .next-mark .ensures .mark w refl zero one)),
+      (s .pre .1 .0, (flagged-of (textOf (now (a .text)) (a .n)) w (now (a .cells)) (l .found .at .0) (c .before .scan .result) (c .before .scan .ok) (ready .tables) (c .before .scan .ensures), c .before .before .next-mark .ensures .mark w refl zero one)),
     )
 
 add-steps : tie.Need-add-steps Inv-loop μ-loop

@@ -2,7 +2,6 @@
 -- Assumes nothing.
 use borrow.Author.Needs.{needs}
 use mathlib.Core.Logic.{⊎-elim}
-use Prim.Native.Nat.{_/_}
 use native.Mathlib.Omega.{arith}
 use denote.Ref.{now}
 use Rattle.matcher.specs.Progress.{patternOf}
@@ -12,18 +11,18 @@ use Rattle.wide.proofs.entering.Tie as tie
 
 returns : tie.Need-returns
 returns c =
-    let a = c .before .args in
+    let a = c .before .before .args in
     let w = patternOf (now (a .word)) (a .m) in
     (enters-past w 0 (a .q) (omega arith), enters-past w 1 (a .q) (omega arith))
 
-cast-b : tie.Need-cast-b
-cast-b c = search needs
+byte-requires : tie.Need-byte-requires
+byte-requires c κs = search needs
 
 shared-slice-read-b : tie.Need-shared-slice-read-b
 shared-slice-read-b c = search needs
 
-cast-b-2 : tie.Need-cast-b-2
-cast-b-2 c = omega (arith, c .shared-slice-known .given (c .before .before .args .q / 8))
+cast-b : tie.Need-cast-b
+cast-b c = omega (arith, c .shared-slice-known2 .given (c .before .byte .result .0))
 
 add-if2 : tie.Need-add-if2
 add-if2 c = search needs
@@ -37,21 +36,22 @@ cast-pad c = search needs
 shr-pad : tie.Need-shr-pad
 shr-pad c = search needs
 
-sub-t13 : tie.Need-sub-t13
-sub-t13 c = omega (arith, c .before .shared-slice-known .given (c .before .before .before .args .q / 8))
+sub-t15 : tie.Need-sub-t15
+sub-t15 c = omega (arith, c .before .shared-slice-known2 .given (c .before .before .byte .result .0))
 
 returns-2 : tie.Need-returns-2
 returns-2 c =
-    let s = c .before .before .before .before in
+    let s = c .before .before .before .before .before .before in
     let a = s .args in
     let w = patternOf (now (a .word)) (a .m) in
-    let small = c .before .before .shared-slice-known .given (a .q / 8) .fits in
+    let byte = c .before .before .before .byte in
+    let small = c .before .before .shared-slice-known2 .given (byte .result .0) .fits in
     let pad : Padding (a .m) (a .q) (c .before .if2 .pad)
     = ⊎-elim
     (λ e. rw (e .1) (padding-some (a .m) (a .q) (omega arith)))
     (λ e. rw (e .1) (padding-none (a .m) (a .q) (omega (arith, e .0))))
     (c .before .if2 .came) in
-    (enters-zero w (a .q) (c .before .if2 .pad) pad (omega arith) small, enters-one w (a .q) (c .before .if2 .pad) pad (omega arith) small)
+    (enters-zero w (a .q) (c .before .if2 .pad) pad (omega arith) (byte .result .0) (byte .ensures) small, enters-one w (a .q) (c .before .if2 .pad) pad (omega arith) (byte .result .0) (byte .ensures) small)
 
 pub entering-spec : {M : Type 1} → statement M
-entering-spec = tie.close (tie.spec returns cast-b shared-slice-read-b cast-b-2 add-if2 sub-pad cast-pad shr-pad sub-t13 returns-2)
+entering-spec = tie.close (tie.spec returns byte-requires shared-slice-read-b cast-b add-if2 sub-pad cast-pad shr-pad sub-t15 returns-2)

@@ -1,16 +1,16 @@
--- `wide::keep8` meets its contract. The loop's invariant: the flags left by the bits passed.
+-- `wide::keep8` meets its contract. The loop's invariant: the bits passed are applied.
 -- Assumes nothing.
-use mathlib.Core.Path.{sym}
-use Prim.Native.Nat.{_-_, _≤_}
+use mathlib.Core.Path.{_≡_}
+use Prim.Native.Nat.{_+_, _-_, _≤_}
 use native.Mathlib.Omega.{arith}
 use denote.Ref.{now}
-use Rattle.wide.specs.Flags.{Keeps}
-use Rattle.wide.proofs.WideFlags.{KeepsTo, keeps-none, keeps-more}
+use Rattle.wide.specs.Flags.{within, Applies}
+use Rattle.wide.proofs.WideScan.{applies-start, applies-bit}
 use Rattle.wide.proofs.keep8.Statement.{statement}
 use Rattle.wide.proofs.keep8.Tie as tie
 
 abbrev Inv-loop : tie.InvT-loop
-Inv-loop text cells q flags at from x f₀ j₀ f j = (j ≤ 8) × KeepsTo cells q x flags j f
+Inv-loop text cells q flags at from x f₀ j₀ f j = (j ≤ 8) × Applies text cells at (within q (q + j)) flags f
 
 abbrev μ-loop : tie.MeasureT-loop
 μ-loop text cells q flags at from x f₀ j₀ f j = 8 - j
@@ -22,7 +22,7 @@ byte-inside-requires : tie.Need-byte-inside-requires Inv-loop μ-loop
 byte-inside-requires c κs = omega arith
 
 loop-holds : tie.Need-loop-holds Inv-loop μ-loop
-loop-holds c = let a = c .before .before .before .args in (omega arith, keeps-none (now (a .cells)) (a .q) (c .byte-inside .result) (a .flags))
+loop-holds c = let a = c .before .before .before .args in (omega arith, applies-start (now (a .text)) (now (a .cells)) (a .s .0) (a .q) (a .q + 0) (a .flags) (omega arith))
 
 sub-c : tie.Need-sub-c Inv-loop μ-loop
 sub-c c = omega arith
@@ -55,13 +55,14 @@ loop-again : tie.Need-loop-again Inv-loop μ-loop
 loop-again c =
     let a = c .before .before .before .before .before .before .args in
     let l = c .before .before .loop in
-    (omega arith, keeps-more (now (a .cells)) (a .q) (c .before .before .before .byte-inside .result) (a .flags) (l .j) (l .f) (l .inv .1))
+    let byte = c .before .before .before .byte-inside in
+    (omega arith, applies-bit (now (a .text)) (now (a .cells)) (a .s .0) (a .q) (l .j) (byte .result) (a .flags) (l .f) (byte .ensures) (omega arith) (l .inv .1))
 
 returns : tie.Need-returns Inv-loop μ-loop
-unfolding Keeps
 returns c =
     let l = c .before .loop in
-    rw (sym (c .before .before .byte-inside .ensures)) (λ i h g. l .inv .1 i h (λ k u. g k (omega arith)))
+    let all : l .j ≡ 8 = omega arith in
+    rw all at (l .inv .1)
 
 pub keep8-spec : {M : Type 1} → statement M
 keep8-spec =

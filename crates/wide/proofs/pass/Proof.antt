@@ -1,16 +1,16 @@
--- `wide::pass` meets its contract. The loop's invariant: the flags of occurrences are left.
+-- `wide::pass` meets its contract. The loop's invariant: the bytes passed are applied.
 -- Assumes nothing.
-use Prim.Native.Nat.{_+_, _-_, _≤_}
+use mathlib.Core.Path.{_≡_}
+use Prim.Native.Nat.{_+_, _-_, _%_, _≤_}
 use native.Mathlib.Omega.{arith}
 use denote.Ref.{now}
-use Rattle.matcher.specs.Progress.{textOf}
-use Rattle.wide.specs.Flags.{Leaves}
-use Rattle.wide.proofs.WideFlags.{leaves-same, leaves-keep, both-le}
+use Rattle.wide.specs.Flags.{Applies}
+use Rattle.wide.proofs.WideScan.{passed, pass-start, pass-more, pass-end, both-le}
 use Rattle.wide.proofs.pass.Statement.{statement}
 use Rattle.wide.proofs.pass.Tie as tie
 
 abbrev Inv-loop : tie.InvT-loop
-Inv-loop text m cells s from flags f₀ q₀ f q = Leaves (textOf text 0) m cells (s .0) flags f × (q ≤ 88)
+Inv-loop text m cells s from flags f₀ q₀ f q = Applies text cells (s .0) (passed m from q) flags f × (q % 16 ≡ from) × (q ≤ 88)
 
 abbrev μ-loop : tie.MeasureT-loop
 μ-loop text m cells s from flags f₀ q₀ f q = 100 - q
@@ -18,7 +18,7 @@ abbrev μ-loop : tie.MeasureT-loop
 loop-holds : tie.Need-loop-holds Inv-loop μ-loop
 loop-holds c =
     let a = c .before .before .args in
-    (leaves-same (textOf (now (a .text)) 0) (a .m) (now (a .cells)) (a .s .0) (a .flags), omega arith)
+    (pass-start (now (a .text)) (now (a .cells)) (a .s .0) (a .m) (a .from) (omega arith) (omega arith) (a .flags), omega arith, omega arith)
 
 add-loop : tie.Need-add-loop Inv-loop μ-loop
 add-loop c = omega arith
@@ -46,12 +46,16 @@ loop-again c =
     let l = c .before .before .loop in
     let a = c .before .before .before .before .before .args in
     let test = both-le (l .q) 72 (l .q + 8) (a .m + 63) (c .before .loop-test .taken) in (
-      leaves-keep (textOf (now (a .text)) 0) (a .m) (now (a .cells)) (a .s .0) (a .flags) (l .f) (c .keep8 .result) (l .q) (l .inv .0) (c .keep8 .ensures) (omega arith),
+      pass-more (now (a .text)) (now (a .cells)) (a .s .0) (a .m) (a .from) (omega arith) (omega arith) (l .q) (l .inv .1) (a .flags) (l .f) (c .keep8 .result) (test .0) (test .1) (l .inv .0) (c .keep8 .ensures),
+      omega arith,
       omega arith,
     )
 
 returns : tie.Need-returns Inv-loop μ-loop
-returns c = c .before .loop .inv .0
+returns c =
+    let l = c .before .loop in
+    let a = c .before .before .before .before .args in
+    pass-end (now (a .text)) (now (a .cells)) (a .s .0) (a .m) (a .from) (omega arith) (omega arith) (l .q) (l .inv .1) (a .flags) (l .f) (c .loop-test .left) (l .inv .0)
 
 pub pass-spec : {M : Type 1} → statement M
 pass-spec =

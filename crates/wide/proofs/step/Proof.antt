@@ -3,7 +3,8 @@
 use mathlib.Core.Path.{refl}
 use native.Mathlib.Omega.{arith}
 use denote.Ref.{now}
-use Rattle.matcher.specs.Progress.{patternOf}
+use Rattle.matcher.specs.Progress.{textOf, patternOf}
+use Rattle.wide.proofs.WideFlags.{flagged-of}
 use Rattle.wide.proofs.step.Statement.{statement}
 use Rattle.wide.proofs.step.Tie as tie
 
@@ -32,7 +33,7 @@ settle-requires c κs =
     let zero = c .before .before .before .before .move-of .ensures .move w refl (ready .tables) in
     let one = c .before .before .before .move-of2 .ensures .move w refl (ready .tables) in (
       omega (arith, ready .pattern .some-bits, ready .pattern .few-bits, ready .few-bits),
-      (s .pre .1 .0, (c .before .scan .ensures .flagged w refl (ready .tables), c .before .before .next-mark .ensures .mark w refl zero one)),
+      (s .pre .1 .0, (flagged-of (textOf (now (a .text)) (a .n)) w (now (a .cells)) (a .s .0) (c .before .scan .result) (c .before .scan .ok) (ready .tables) (c .before .scan .ensures), c .before .before .next-mark .ensures .mark w refl zero one)),
     )
 
 same-length : tie.Need-same-length
