@@ -1,5 +1,5 @@
--- What the parts of the wide method promise each other: eight window bits at a time as they enter the table, flags that
--- still stand, and the move to the next mark.
+-- What the parts of the wide method promise each other: eight window bits at a time as they enter the table, the window bits
+-- that a scan applies and the flags that they leave, and the move to the next mark.
 use Prim.Native.Nat.{ℕ, _+_, _-_, _*_, _/_, _%_, _^_, _≤_, _<_, min}
 use mathlib.Core.Path.{_≡_}
 use mathlib.Core.Logic.{_↔_}
@@ -55,7 +55,7 @@ second m from q = eqb (q % 16 / 8 * 8) from && (ltb q 80 && leb (q / 8 * 8 + 8) 
 unfoldable pub applied : ℕ → ℕ → ℕ → Bool
 applied m k q = cond (ltb m 64) ((ltb 0 k && second m 0 q) || (ltb 1 k && second m 8 q)) (within 56 (56 + 16 * k) q)
 
--- how many rounds the window has
+-- how many rounds the window has: two, or as many as lie whole in it
 abbrev pub rounds : ℕ → ℕ
 rounds m = cond (ltb m 64) 2 ((m + 7) / 16)
 
@@ -65,8 +65,8 @@ unfoldable pub Applies : List ℕ → List ℕ → ℕ → (ℕ → Bool) → �
 Applies bytes cells s bits f r =
     (i : ℕ) → (weight r i ≡ 1) ↔ ((weight f i ≡ 1) × ((q : ℕ) → bits q ≡ true → weight (getD cells (2 * q + bitAt bytes (s + q)) 0) i ≡ 1))
 
--- Flag i stands after k rounds: it "falls when, for some q" that is applied, "t[s+q] differs from w[q−i]". This is the rule's
--- `stands` for the window bits applied alone.
+-- Flag i stands after k rounds: it "falls when, for some q" that is applied, "t[s+q] differs from w[q−i]". This is `stands` of
+-- the rules for the bits applied alone; a round is made only where all of the window lies before n.
 unfoldable pub standsAfter : Packed → Pattern → ℕ → ℕ → ℕ → Bool
 standsAfter t w s k i = every (window w) (λ q. implies (applied (w .count) k q) (passes w (bitAt (t .bytes) (s + q)) q i))
 
