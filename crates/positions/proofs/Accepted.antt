@@ -1,4 +1,4 @@
--- What is read was encoded: the bytes behind a number, a position and a body that reading accepts are their encoding.
+-- What is read was encoded: the bytes of a number, a position and a body that reading accepts are their encoding.
 use Prim.Native.Nat.{ℕ, zero, suc, _+_, _-_, _*_, _/_, _%_, _≤_, _<_}
 use mathlib.Core.Path.{_≡_, refl, sym, ap, _∙_, subst}
 use mathlib.Core.Bool.{true, false≢true}
@@ -108,7 +108,7 @@ one-more next bytes p rest b a e body =
       rises = rises-on next p (b .0) (omega (arith, t .2)) (t .3) ∙ body .rises;
     }
 
--- a body behind its first position
+-- a body after its first position
 more-body : (k next : ℕ) (bytes : List ℕ) (p : ℕ) (rest : List ℕ) (b : List ℕ × List ℕ) → areBytes bytes ≡ true → readPosition next bytes ≡ ok (p, rest)
     → readBody (suc k) next bytes ≡ ok b → ((d : List ℕ × List ℕ) → areBytes rest ≡ true → readBody k (p + 1) rest ≡ ok d → BodyOf (p + 1) rest d)
     → BodyOf next bytes b

@@ -63,6 +63,21 @@ counted-written l room n e = go (rising l) refl
           | no k ↦ let q = e ∙ write-short l room h (omega arith) in let z : _≡_ {A = ℕ} 0 1 = cc in absurd (omega arith)
         ]
 
+-- the writer's refusals are those of document 01's table, 8 and 9
+pub refused-number : (l : List ℕ) (room n : ℕ) → refused n ≡ writeAnswer l room → (8 ≤ n) × (n ≤ 9)
+refused-number l room n e = go (rising l) refl
+  where
+    is : (k : ℕ) → writeAnswer l room ≡ refused k → n ≡ k
+    is k h = cc
+
+    go : (b : Bool) → rising l ≡ b → (8 ≤ n) × (n ≤ 9)
+    go false h = let k = is 8 (write-falling l room h) in (omega arith, omega arith)
+    go true h =
+        elim (decLe (length (encode l)) room) [
+          | yes f ↦ let q = e ∙ write-counted l room h f in let z : _≡_ {A = ℕ} 0 1 = cc in absurd (omega arith)
+          | no f ↦ let k = is 9 (write-short l room h (omega arith)) in (omega arith, omega arith)
+        ]
+
 pub writes-refused : (l target : List ℕ) (why : WriteRefusal) → writeAnswer l (length target) ≡ refused (writeRefusal why) → Writes l target (Refused why) target
 unfolding leaves
 writes-refused l target why e = record { answer = sym e; target = rw e }

@@ -1,7 +1,9 @@
--- `RoundTrip` has the theorems about the file, `StrictlyRising` what a list that the writer takes is, `Examples` the examples of document 01.
+-- `RoundTrip` has the theorems about the file, `CallToCall` those about a call of the writer and one of the reader, `StrictlyRising` what a
+-- list that the writer takes is, `Examples` the examples of document 01.
 -- The others are laws that these and the functions' proofs cite: `Groups` and `Rising` of what is written, `ReadGroups`, `ReadBody`
 -- and `Decoded` of what is read, `Stores` and `Answers` of buffers and answers, `ReadBack` and `Accepted` of the two directions.
 pub mod RoundTrip
+pub mod CallToCall
 pub mod Examples
 pub mod Groups
 pub mod Rising

@@ -91,7 +91,7 @@ judged-behind k p (ok b) =
     let e : k + suc (length (b .0)) ≡ k + 1 + length (b .0) = omega arith in
     ap (λ (n : ℕ). pick (isEmpty (b .1)) (count n) (refused 13)) e
 
--- behind the last position: bytes left over, or none
+-- after the last position: bytes left over, or none
 pub judged-left : (k next : ℕ) (file : List ℕ) (at : ℕ) → at < length file → judged k (readBody 0 next (drop at file)) ≡ refused 13
 unfolding judged readBody
 judged-left k next file at h = rw (drop-cons file at 0 h)

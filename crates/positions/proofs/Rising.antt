@@ -77,7 +77,7 @@ module _ (l : List ℕ) (i : ℕ) (inside : i < length l) where
   pub size-here : (next : ℕ) → length (encodeFrom next (drop i l)) ≡ length (encodeNumber (getD l i 0 - next)) + length (encodeFrom (getD l i 0 + 1) (drop (i + 1) l))
   size-here next = ap length (encode-here next) ∙ length-append (encodeNumber (getD l i 0 - next)) (encodeFrom (getD l i 0 + 1) (drop (i + 1) l))
 
--- behind the last position
+-- after the last position
 module _ (l : List ℕ) (i : ℕ) (past : length l ≤ i) where
   pub rises-end : (next : ℕ) → risesFrom next (drop i l) ≡ true
   unfolding risesFrom

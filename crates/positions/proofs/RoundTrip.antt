@@ -1,25 +1,21 @@
--- The two theorems of the position list file, about the definitions to which writer and reader are equated, and what follows from them.
+-- The two theorems of the position list file, about the definitions to which writer and reader are equated, and what follows from
+-- them. `CallToCall` has the same of the calls.
 use Prim.Native.Nat.{ℕ, _+_, _≤_}
 use mathlib.Core.Path.{_≡_, refl, sym, ap, _∙_}
 use mathlib.Core.Bool.{true}
 use mathlib.Core.List.{List, [], _∷_, _++_, append-nil}
 use native.Mathlib.Omega.{arith}
 use native.Mathlib.Decide.{decLe}
-use lib.ListN.{length, take, drop}
+use lib.ListN.{length}
 use lib.Pow.{areBytes}
-use lib.Seq.{take-at}
 use Rattle.positions.specs.Basics.{pick, Result, ok, fault, isEmpty}
 use Rattle.positions.specs.Encode.{encodeNumber, encodeFrom, encode, rising}
 use Rattle.positions.specs.Decode.{readNumber, readBody, whole, decode}
-use Rattle.positions.specs.Promise.{Answer, leaves, Writes, readAnswer, readCells, Reads}
 use Rattle.positions.specs.Inner.{accepts, positionsOf}
-use Rattle.positions.specs.declared.Written.the-variants.{Bytes}
-use Rattle.positions.specs.declared.ReadAnswer.the-variants.{Count}
 use Rattle.positions.proofs.ReadGroups.{fault-ok, ok-same}
 use Rattle.positions.proofs.Rising.{list-bytes}
 use Rattle.positions.proofs.ReadBody.{body-length}
 use Rattle.positions.proofs.Decoded.{decode-fault, decode-few, decode-body}
-use Rattle.positions.proofs.Answers.{counted-written}
 use Rattle.positions.proofs.ReadBack.{file-back, file-few}
 use Rattle.positions.proofs.Accepted.{number-encoded, body-encoded}
 
@@ -33,7 +29,7 @@ pub record FileOf (file : List ℕ) (cells : ℕ) (l : List ℕ) : Type 0 where
   pub taken : rising l ≡ true
   pub fits : length l ≤ cells
 
--- the body behind a count
+-- the body after a count
 body-file : (file : List ℕ) (cells k : ℕ) (rest l : List ℕ) → areBytes file ≡ true → readNumber file ≡ ok (k, rest) → k ≤ cells
     → whole (readBody k 0 rest) ≡ ok l → FileOf file cells l
 unfolding whole encode rising
@@ -99,28 +95,3 @@ no-good-beginning file more cells cells′ l m a e e′ =
     none-left : (rest : List ℕ) → pick (isEmpty rest) (ok l) (fault 13) ≡ ok m → rest ≡ []
     none-left [] q = refl
     none-left (x ∷ xs) q = absurd (fault-ok q)
-
--- ---- the same of the calls: `Writes` and `Reads` are the promises of `write` and `read`
-
--- the bytes that a call of `write` wrote decode to its list
-pub written-decodes : (l before after : List ℕ) (n cells : ℕ) → Writes l before (Bytes n) after → length l ≤ cells → decode (take n after) cells ≡ ok l
-unfolding leaves
-written-decodes l before after n cells w h =
-    let k = counted-written l (length before) n (w .answer) in
-    let bytes : after ≡ encode l ++ drop n before = w .target ∙ ap (λ (a : Answer). leaves a (encode l) before) (sym (w .answer)) in
-    ap (λ (file : List ℕ). decode file cells) (ap (take n) bytes ∙ take-at (encode l) (drop n before) n (sym (k .1)))
-    ∙ decode-encode l cells (k .0) h
-
--- the bytes that a call of `read` took are the encoding of the positions that it wrote
-pub read-encodes : (file before after : List ℕ) (n : ℕ) → areBytes file ≡ true → Reads file before (Count n) after → file ≡ encode (take n after)
-unfolding readAnswer readCells
-read-encodes file before after n a r = go (decode file (length before)) refl
-  where
-    go : (d : Result (List ℕ)) → decode file (length before) ≡ d → file ≡ encode (take n after)
-    go (fault m) e = let q = r .answer ∙ ap readAnswer e in let z : _≡_ {A = ℕ} 0 1 = cc in absurd (omega arith)
-    go (ok l) e =
-        let q = r .answer ∙ ap readAnswer e in
-        let len : length l ≡ n = cc in
-        let cells : after ≡ l ++ drop (length l) before = r .cells ∙ ap (λ (d : Result (List ℕ)). readCells d before) e in
-        encode-decode file (length before) l a e .bytes-are
-        ∙ ap encode (sym (ap (take n) cells ∙ take-at l (drop (length l) before) n len))

@@ -10,7 +10,7 @@ use Rattle.positions.specs.Basics.{limit, pick, Result, ok, fault, andTh
 unfoldable pub lastGroup : ℕ → ℕ → ℕ → List ℕ → Result (ℕ × List ℕ)
 lastGroup w b n rest = pick (ltb 1 w && eqb b 0) (fault 11) (pick (leb n limit) (ok (n, rest)) (fault 12))
 
--- At most k groups more, the next one of weight w, behind groups that add up to v.
+-- At most k groups more, the next one of weight w, after groups that add up to v.
 -- Document 01: "bytes end within its first five groups, 10; the fifth says another follows, 12"
 unfoldable pub readGroups : ℕ → ℕ → ℕ → List ℕ → Result (ℕ × List ℕ)
 readGroups zero w v bytes = fault 12

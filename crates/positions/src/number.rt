@@ -18,7 +18,7 @@ pub(crate) enum Reading {
 }
 
 // How many bytes a number takes: one for each seven bits, with no branch, since the lengths of a list's numbers cannot be
-// predicted. 9 b / 64 is b / 7 rounded down for each bit count b that is asked.
+// predicted. A number has 0 to 32 bits, and for these (9 * bits + 64) / 64 rounded down is bits / 7 rounded up, or 1 for no bit.
 pub(crate) fn size(n: u32) -> usize
     ensures { λ r. ⌜ (r ≡ length (encodeNumber n)) × (r ≤ 5) ⌝ }
 {

@@ -33,7 +33,7 @@ fn position(file: &[u8], at: usize, next: u32) -> Reading
     }
 }
 
-// Judges the file behind its count, and stores nothing.
+// Judges the file after its count, and stores nothing.
 fn judge(file: &[u8], start: usize, count: u32) -> ReadAnswer
     ensures { λ r. ⌜ readGives r ≡ readAnswer (whole (readBody count 0 (drop start (now (file .entry))))) ⌝ }
 {
@@ -87,7 +87,7 @@ fn store(file: &[u8], start: usize, count: u32, cells: &mut [u32])
     }
 }
 
-// Reads a file's positions into the front of the cells. The cells behind them stay.
+// Reads a file's positions into the front of the cells. The cells after them stay.
 pub fn read(file: &[u8], cells: &mut [u32]) -> ReadAnswer
     ensures { λ r. ⌜ Reads (now (file .entry)) (now (cells .entry)) r (now (cells .exit)) ⌝ }
 {

@@ -63,7 +63,7 @@ fn store(list: &[u32], target: &mut [u8])
     }
 }
 
-// Writes the file of a list to the front of the target. What lies behind it stays.
+// Writes the file of a list to the front of the target. What lies after it stays.
 pub fn write(list: &[u32], target: &mut [u8]) -> Written
     ensures { λ r. ⌜ Writes (now (list .entry)) (now (target .entry)) r (now (target .exit)) ⌝ }
 {

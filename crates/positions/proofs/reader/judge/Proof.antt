@@ -75,7 +75,7 @@ loop-again c =
       omega (arith, position-taken _ _ _ _ e .3),
     )
 
--- behind the loop no position is left
+-- after the loop no position is left
 none-left : (c : tie.After-loop Inv-loop μ-loop) →
     let a = c .before .before .before .args in
     let l = c .before .loop in

@@ -1,4 +1,4 @@
--- `positions::reader::store` meets its contract. The loop's invariant: the positions from the index reached, stored behind those
+-- `positions::reader::store` meets its contract. The loop's invariant: the positions from the index reached, stored after those
 -- passed, give what all of them stored from the first cell give. The measure is how many positions are left. No fault is found,
 -- since the body was judged good.
 -- Assumes nothing.

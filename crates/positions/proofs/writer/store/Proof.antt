@@ -1,5 +1,5 @@
 -- `positions::writer::store` meets its contract. The loop's invariant: the gaps of what is left of the list, stored at the index
--- reached, give what all gaps stored behind the count give. The measure is what is left of the list's length.
+-- reached, give what all gaps stored after the count give. The measure is what is left of the list's length.
 -- Assumes nothing.
 use Prim.Native.Nat.{_+_, _-_, _≤_}
 use mathlib.Core.Path.{_≡_, refl, sym, ap, _∙_}
