@@ -1,8 +1,8 @@
 -- The position list file: the byte count that a list needs, the writer and the reader.
 use Prim.Native.Nat.{ℕ}
 use mathlib.Core.Path.{_≡_}
-use mathlib.Core.List.{List, [], _∷_}
-use lib.ListN.{length}
+use mathlib.Core.List.{List, [], _∷_, _++_}
+use lib.ListN.{length, drop, getD}
 use Rattle.positions.specs.Basics.{Result, fault}
 use Rattle.positions.specs.Encode.{encode}
 use Rattle.positions.specs.Decode.{decode}
@@ -37,3 +37,18 @@ readVerdict file cells answer =
 pub record ListRead (file cells answer : List ℕ) (result : ℕ) (cells′ answer′ : List ℕ) : Type 0 where
   pub tells : Tells (countTells (readAnswer (readVerdict file cells answer))) answer result answer′
   pub cells-is : cells′ ≡ readCells (readVerdict file cells answer) cells
+
+-- ---- the writer and then the reader, or the reader and then the writer (demand 2), in what C sees
+
+-- how many numbers an accepted call put into its buffer: the first answer cell
+abbrev pub told : List ℕ → ℕ
+told answer = getD answer 0 0
+
+-- A call that puts `new` into the front of a buffer: it returns 0, tells the length of `new`, and leaves the buffer's rest as
+-- it was. The theorems are in proofs/ListCalls.antt: a call of the reader on the bytes that a call of the writer wrote
+-- does that with the writer's list, and a call of the writer on the list that a call of the reader gave does it with the
+-- reader's file.
+pub record Puts (new before : List ℕ) (result : ℕ) (after answer : List ℕ) : Type 0 where
+  pub result-is : result ≡ 0
+  pub told-is : told answer ≡ length new
+  pub buffer-is : after ≡ new ++ drop (length new) before
