@@ -1,5 +1,5 @@
--- The examples of document 01 that belong to the position list file, and edges of the format: one collection, about the
--- definitions to which writer and reader are equated.
+-- The examples of the table of refusals that belong to the position list file, edges of the format, and what stands in the buffers: one
+-- collection, about the definitions to which writer and reader are equated. The starred row of the file is in the crate `papers`.
 use Prim.Native.Nat.{_^_, _-_}
 use mathlib.Core.Path.{_≡_, refl}
 use mathlib.Core.List.{[], _∷_}
@@ -7,19 +7,6 @@ use Rattle.positions.specs.Basics.{ok, fault}
 use Rattle.positions.specs.Encode.{encode, encodeFrom, encodeNumber, groups, rising, risesFrom}
 use Rattle.positions.specs.Decode.{decode, whole, readBody, readPosition, readNumber, readGroups, lastGroup}
 use Rattle.positions.specs.Promise.{writeAnswer, count, refused, leaves, readCells}
-
--- Document 01, "Papers from the course", the starred row of the file, each way
-pub record Papers : Type 0 where
-  pub three : encode (0 ∷ 6 ∷ 12 ∷ []) ≡ 0x03 ∷ 0x00 ∷ 0x05 ∷ 0x05 ∷ []
-  pub one : encode (300 ∷ []) ≡ 0x01 ∷ 0xAC ∷ 0x02 ∷ []
-  pub none : encode [] ≡ 0x00 ∷ []
-  pub three-back : decode (0x03 ∷ 0x00 ∷ 0x05 ∷ 0x05 ∷ []) 3 ≡ ok (0 ∷ 6 ∷ 12 ∷ [])
-  pub one-back : decode (0x01 ∷ 0xAC ∷ 0x02 ∷ []) 1 ≡ ok (300 ∷ [])
-  pub none-back : decode (0x00 ∷ []) 0 ≡ ok []
-
-pub papers : Papers
-unfolding encode encodeFrom encodeNumber groups decode whole readBody readPosition readNumber readGroups lastGroup
-papers = record { three = refl; one = refl; none = refl; three-back = refl; one-back = refl; none-back = refl }
 
 -- Document 01, "When the panel says no", rows 8 to 14; rows 10 to 13 with one cell
 pub record Refusals : Type 0 where
@@ -87,10 +74,9 @@ buffers = record { written = refl; not-written = refl; read = refl; not-read = r
 
 -- the whole collection
 pub record All : Type 0 where
-  pub of-papers : Papers
   pub of-refusals : Refusals
   pub of-edges : Edges
   pub of-buffers : Buffers
 
 pub all : All
-all = record { of-papers = papers; of-refusals = refusals; of-edges = edges; of-buffers = buffers }
+all = record { of-refusals = refusals; of-edges = edges; of-buffers = buffers }

@@ -1,5 +1,5 @@
 -- `RoundTrip` has the theorems about the file, `CallToCall` those about a call of the writer and one of the reader, `StrictlyRising` what a
--- list that the writer takes is, `Examples` the examples of document 01.
+-- list that the writer takes is, `Examples` the examples of the table of refusals and edges.
 -- The others are laws that these and the functions' proofs cite: `Groups` and `Rising` of what is written, `ReadGroups`, `ReadBody`
 -- and `Decoded` of what is read, `Stores` and `Answers` of buffers and answers, `ReadBack` and `Accepted` of the two directions.
 pub mod RoundTrip

@@ -9,4 +9,3 @@ pub mod Skip
 pub mod Wide
 pub mod Methods
 pub mod Machine
-pub mod Papers

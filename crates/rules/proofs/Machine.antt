@@ -1,6 +1,6 @@
 -- What the machine leaves from any mark with any budget and free cells.
 use Prim.Native.Nat.{ℕ, zero, suc, _+_, _-_, _≤_, _<_}
-use mathlib.Core.Path.{_≡_, refl, sym, ap₂, _∙_}
+use mathlib.Core.Path.{_≡_, refl, sym, ap, ap₂, _∙_}
 use mathlib.Core.Logic.{_⊎_, inl, inr}
 use mathlib.Core.Bool.{Bool, true, false, cond}
 use mathlib.Core.List.{List, [], _++_, append-assoc}
@@ -62,6 +62,11 @@ module _ (x : Method) (t : Packed) (w : Pattern) (s cells : ℕ) where
   pub run-cut : (b : ℕ) → s < places t w → cells < length (finds x t w s) → run x t w (suc b) s cells ≡ cut cells (finds x t w s)
   unfolding run
   run-cut b h l = rw (lt-ltb _ _ h, lt-leb _ _ l)
+
+  -- "the step is counted" that a full list cuts
+  pub cut-counted : (b : ℕ) → s < places t w → cells < length (finds x t w s) → run x t w (suc b) s cells .steps ≡ 1
+  unfolding cut
+  cut-counted b h l = ap (λ (r : Run). r .steps) (run-cut b h l)
 
 -- what each turn leaves
 

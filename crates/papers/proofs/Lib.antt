@@ -1,0 +1,2 @@
+-- The proof of the one claim.
+pub mod Papers

@@ -1,0 +1,47 @@
+-- The starred rows hold: each computes.
+use mathlib.Core.Path.{refl}
+use Rattle.bits.specs.Packed.{bitAt, bitsAt}
+use Rattle.rules.specs.Ranges.{every, among, least, greatest}
+use Rattle.rules.specs.Pattern.{agrees}
+use Rattle.rules.specs.Occurrence.{matches, occurs, occurrences}
+use Rattle.rules.specs.Plain.{fromBits, inRow, rowBit, maskBit, rowByte, rowMask, rowFits, plainFinds}
+use Rattle.rules.specs.Hash.{meets, hashOf, hashAgain, lastEight, hashFinds, hashNext}
+use Rattle.rules.specs.Skip.{shows, shownAt, skipFinds}
+use Rattle.rules.specs.Wide.{counts, stands, flagged, wideFinds, lastIndex, wideNext}
+use Rattle.rules.specs.Step.{finds, ahead, next}
+use Rattle.rules.specs.Machine.{stopped, cut, after, run}
+use Rattle.rules.specs.Papers.{marksFrom}
+use Rattle.positions.specs.Encode.{groups, encodeNumber, encodeFrom, encode}
+use Rattle.positions.specs.Decode.{lastGroup, readGroups, readNumber, readPosition, readBody, whole, decode}
+use Rattle.papers.specs.Papers.{Papers}
+
+pub papers : Papers
+unfolding bitAt bitsAt every among least greatest agrees matches occurs occurrences fromBits inRow rowBit maskBit rowByte rowMask rowFits plainFinds meets hashOf hashAgain lastEight hashFinds hashNext shows shownAt skipFinds counts stands flagged wideFinds lastIndex wideNext finds ahead next stopped cut after run marksFrom groups encodeNumber encodeFrom encode lastGroup readGroups readNumber readPosition readBody whole decode
+papers =
+    record {
+      r1-v1 = refl;
+      r2-v2 = refl;
+      h-01100101 = refl;
+      h-11001011 = refl;
+      h-10010110 = refl;
+      h-11111111 = refl;
+      h-00000000 = refl;
+      hash-marks = refl;
+      hash-run = refl;
+      skip-marks = refl;
+      skip-run = refl;
+      one-cell-plain = refl;
+      one-cell-hash = refl;
+      one-cell-wide = refl;
+      empty-plain = refl;
+      empty-wide = refl;
+      overlapping = refl;
+      wide-marks = refl;
+      wide-run = refl;
+      list-three = refl;
+      list-300 = refl;
+      list-empty = refl;
+      list-three-back = refl;
+      list-300-back = refl;
+      list-empty-back = refl;
+    }

@@ -1,0 +1,2 @@
+-- The one claim.
+pub mod Papers

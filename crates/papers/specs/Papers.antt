@@ -1,0 +1,46 @@
+-- The starred rows of "Papers from the course", in document 01's order, as one claim about the definitions. The recordings R1 and R2 and the
+-- words V1 and V2 are those of rules/specs/Papers.antt.
+use mathlib.Core.Path.{_≡_}
+use mathlib.Core.List.{[], _∷_}
+use Rattle.rules.specs.declared.Method.the-variants.{Plain, Hash, Skip, Wide}
+use Rattle.rules.specs.Hash.{hashOf}
+use Rattle.rules.specs.Machine.{done, full}
+use Rattle.rules.specs.Papers.{R1, V1, R2, V2, empty, ones5, one, ones3, zeros200, allOccurrences, wholeRun, marks}
+use Rattle.positions.specs.Basics.{ok}
+use Rattle.positions.specs.Encode.{encode}
+use Rattle.positions.specs.Decode.{decode}
+
+pub record Papers : Type 0 where
+  -- "R1, V1: hit 11 only. R2, V2: 0, 6, 12."
+  pub r1-v1 : allOccurrences R1 V1 ≡ 11 ∷ []
+  pub r2-v2 : allOccurrences R2 V2 ≡ 0 ∷ 6 ∷ 12 ∷ []
+  -- "V2: H(01100101) = 2, H(11001011) = 1, H(10010110) = 0; H(11111111) = 19, H(00000000) = 21."
+  pub h-01100101 : hashOf V2 0b01100101 ≡ 2
+  pub h-11001011 : hashOf V2 0b11001011 ≡ 1
+  pub h-10010110 : hashOf V2 0b10010110 ≡ 0
+  pub h-11111111 : hashOf V2 0b11111111 ≡ 19
+  pub h-00000000 : hashOf V2 0b00000000 ≡ 21
+  -- "Hash, R1, V1: marks 0, 7, 11, 17, 26, 27." The last one is E, and five steps are all
+  pub hash-marks : marks Hash R1 V1 5 ≡ 0 ∷ 7 ∷ 11 ∷ 17 ∷ 26 ∷ 27 ∷ []
+  pub hash-run : wholeRun Hash R1 V1 1000 ≡ record { steps = 5; written = 11 ∷ []; mark = 27; ending = done }
+  -- "Skip, R2, V2: marks 0, 9, 13."
+  pub skip-marks : marks Skip R2 V2 2 ≡ 0 ∷ 9 ∷ 13 ∷ []
+  pub skip-run : wholeRun Skip R2 V2 1000 ≡ record { steps = 2; written = 0 ∷ 6 ∷ 12 ∷ []; mark = 13; ending = done }
+  -- "R2, V2, one cell: place 0 written, full at 6; steps plain 7, hash 2, wide 1."
+  pub one-cell-plain : wholeRun Plain R2 V2 1 ≡ record { steps = 7; written = 0 ∷ []; mark = 6; ending = full 6 }
+  pub one-cell-hash : wholeRun Hash R2 V2 1 ≡ record { steps = 2; written = 0 ∷ []; mark = 6; ending = full 6 }
+  pub one-cell-wide : wholeRun Wide R2 V2 1 ≡ record { steps = 1; written = 0 ∷ []; mark = 6; ending = full 6 }
+  -- "n = 0, word 1: done, no step. Word 111 in 11111: 0, 1, 2."
+  pub empty-plain : wholeRun Plain empty one 1000 ≡ record { steps = 0; written = []; mark = 0; ending = done }
+  pub empty-wide : wholeRun Wide empty one 1000 ≡ record { steps = 0; written = []; mark = 0; ending = done }
+  pub overlapping : allOccurrences ones5 ones3 ≡ 0 ∷ 1 ∷ 2 ∷ []
+  -- "200 zero bits, word 1, wide: marks 0, 65, 130, 195, 200."
+  pub wide-marks : marks Wide zeros200 one 4 ≡ 0 ∷ 65 ∷ 130 ∷ 195 ∷ 200 ∷ []
+  pub wide-run : wholeRun Wide zeros200 one 1000 ≡ record { steps = 4; written = []; mark = 200; ending = done }
+  -- "List 0, 6, 12 is 03 00 05 05; 300 is 01 AC 02; the empty list is 00." Each way, with a cell for each position
+  pub list-three : encode (0 ∷ 6 ∷ 12 ∷ []) ≡ 0x03 ∷ 0x00 ∷ 0x05 ∷ 0x05 ∷ []
+  pub list-300 : encode (300 ∷ []) ≡ 0x01 ∷ 0xAC ∷ 0x02 ∷ []
+  pub list-empty : encode [] ≡ 0x00 ∷ []
+  pub list-three-back : decode (0x03 ∷ 0x00 ∷ 0x05 ∷ 0x05 ∷ []) 3 ≡ ok (0 ∷ 6 ∷ 12 ∷ [])
+  pub list-300-back : decode (0x01 ∷ 0xAC ∷ 0x02 ∷ []) 1 ≡ ok (300 ∷ [])
+  pub list-empty-back : decode (0x00 ∷ []) 0 ≡ ok []
