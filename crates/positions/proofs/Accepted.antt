@@ -14,7 +14,7 @@ use Rattle.positions.specs.Decode.{readGroups, readNumber, readPosition,
 use Rattle.positions.proofs.Groups.{one-byte, more-bytes}
 use Rattle.positions.proofs.Rising.{and-both, rises-on}
 use Rattle.positions.proofs.ReadGroups.{fault-ok, ok-same, Fewest, fewest-last, last-taken}
-use Rattle.positions.proofs.ReadBody.{position-taken, behind, body-fault, body-suc}
+use Rattle.positions.proofs.ReadBody.{position-taken, prepend, body-fault, body-suc}
 use Rattle.positions.proofs.ReadBack.{regroup}
 
 -- ---- a number
@@ -115,11 +115,11 @@ more-body : (k next : ℕ) (bytes : List ℕ) (p : ℕ) (rest : List ℕ) (b : L
 more-body k next bytes p rest b a h e ih = go (readBody k (p + 1) rest) refl
   where
     go : (r : Result (List ℕ × List ℕ)) → readBody k (p + 1) rest ≡ r → BodyOf next bytes b
-    go (fault n) q = absurd (fault-ok (sym (body-suc k next bytes p rest h ∙ ap (behind p) q) ∙ e))
+    go (fault n) q = absurd (fault-ok (sym (body-suc k next bytes p rest h ∙ ap (prepend p) q) ∙ e))
     go (ok d) q =
         let t = position-taken next bytes p rest h in
         let body = ih d (number-encoded bytes (t .0) rest a (t .1) .1) q in
-        subst (λ (x : List ℕ × List ℕ). BodyOf next bytes x) (ok-same (sym (body-suc k next bytes p rest h ∙ ap (behind p) q) ∙ e))
+        subst (λ (x : List ℕ × List ℕ). BodyOf next bytes x) (ok-same (sym (body-suc k next bytes p rest h ∙ ap (prepend p) q) ∙ e))
         (one-more next bytes p rest d a h body)
 
 pub body-encoded : (k next : ℕ) (bytes : List ℕ) (b : List ℕ × List ℕ) → areBytes bytes ≡ true → readBody k next bytes ≡ ok b → BodyOf next bytes b

@@ -14,7 +14,7 @@ use Rattle.positions.specs.Decode.{readGroups, readNumber, readPosition,
 use Rattle.positions.proofs.Groups.{one-byte, more-bytes}
 use Rattle.positions.proofs.Rising.{rises-taken, rises-length}
 use Rattle.positions.proofs.ReadGroups.{Fewest, fewest-last, last-ok}
-use Rattle.positions.proofs.ReadBody.{position-ok, behind, body-suc}
+use Rattle.positions.proofs.ReadBody.{position-ok, prepend, body-suc}
 use Rattle.positions.proofs.Decoded.{decode-body, decode-few}
 
 -- the lowest group and the groups above it, each at its weight
@@ -73,7 +73,7 @@ body-back next (p ∷ ps) rest r =
     let tail : List ℕ = encodeFrom (p + 1) ps ++ rest in
     ap (readBody (suc (length ps)) next) (append-assoc (encodeNumber (p - next)) (encodeFrom (p + 1) ps) rest)
     ∙ body-suc (length ps) next (encodeNumber (p - next) ++ tail) p tail (position-back next p tail (t .0) (t .1))
-    ∙ ap (behind p) (body-back (p + 1) ps rest (t .2))
+    ∙ ap (prepend p) (body-back (p + 1) ps rest (t .2))
 
 -- ---- a whole file, and what follows it
 

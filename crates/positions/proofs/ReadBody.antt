@@ -49,8 +49,8 @@ position-taken next bytes p rest e = go (readNumber bytes) refl
 -- ---- the body
 
 -- a position in front of a body's
-abbrev pub behind : ℕ → Result (List ℕ × List ℕ) → Result (List ℕ × List ℕ)
-behind p r = andThen r (λ b. ok (p ∷ b .0, b .1))
+abbrev pub prepend : ℕ → Result (List ℕ × List ℕ) → Result (List ℕ × List ℕ)
+prepend p r = andThen r (λ b. ok (p ∷ b .0, b .1))
 
 pub body-fault : (left next : ℕ) (bytes : List ℕ) (n : ℕ) → 0 < left → readPosition next bytes ≡ fault n → readBody left next bytes ≡ fault n
 unfolding readBody
@@ -58,16 +58,16 @@ body-fault zero next bytes n h e = absurd (omega arith)
 body-fault (suc k) next bytes n h e = rw e
 
 pub body-suc : (k next : ℕ) (bytes : List ℕ) (p : ℕ) (rest : List ℕ) → readPosition next bytes ≡ ok (p, rest)
-    → readBody (suc k) next bytes ≡ behind p (readBody k (p + 1) rest)
+    → readBody (suc k) next bytes ≡ prepend p (readBody k (p + 1) rest)
 unfolding readBody
 body-suc k next bytes p rest e = rw e
 
 pub body-step : (left next : ℕ) (bytes : List ℕ) (p : ℕ) (rest : List ℕ) → 0 < left → readPosition next bytes ≡ ok (p, rest)
-    → readBody left next bytes ≡ behind p (readBody (left - 1) (p + 1) rest)
+    → readBody left next bytes ≡ prepend p (readBody (left - 1) (p + 1) rest)
 body-step zero next bytes p rest h e = absurd (omega arith)
 body-step (suc k) next bytes p rest h e =
     let s : k ≡ suc k - 1 = omega arith in
-    body-suc k next bytes p rest e ∙ ap (λ (j : ℕ). behind p (readBody j (p + 1) rest)) s
+    body-suc k next bytes p rest e ∙ ap (λ (j : ℕ). prepend p (readBody j (p + 1) rest)) s
 
 -- ---- what the first pass finds out: the answer after k positions and this body
 
@@ -84,10 +84,10 @@ judged-all (ok b) = go (b .1)
     go [] = ap count (omega arith)
     go (x ∷ xs) = refl
 
-pub judged-behind : (k p : ℕ) (r : Result (List ℕ × List ℕ)) → judged k (behind p r) ≡ judged (k + 1) r
+pub judged-prepend : (k p : ℕ) (r : Result (List ℕ × List ℕ)) → judged k (prepend p r) ≡ judged (k + 1) r
 unfolding judged
-judged-behind k p (fault n) = refl
-judged-behind k p (ok b) =
+judged-prepend k p (fault n) = refl
+judged-prepend k p (ok b) =
     let e : k + suc (length (b .0)) ≡ k + 1 + length (b .0) = omega arith in
     ap (λ (n : ℕ). pick (isEmpty (b .1)) (count n) (refused 13)) e
 
@@ -102,13 +102,13 @@ judged-whole k next file at h = rw (drop-of-length-le file h) (ap count (omega a
 
 -- ---- what the second pass stores
 
-pub accepts-behind : (p : ℕ) (r : Result (List ℕ × List ℕ)) → accepts (behind p r) ≡ accepts r
-accepts-behind p (ok b) = refl
-accepts-behind p (fault n) = refl
+pub accepts-prepend : (p : ℕ) (r : Result (List ℕ × List ℕ)) → accepts (prepend p r) ≡ accepts r
+accepts-prepend p (ok b) = refl
+accepts-prepend p (fault n) = refl
 
-pub positions-behind : (p : ℕ) (r : Result (List ℕ × List ℕ)) → accepts r ≡ true → positionsOf (behind p r) ≡ p ∷ positionsOf r
-positions-behind p (ok b) h = refl
-positions-behind p (fault n) h = absurd (false≢true h)
+pub positions-prepend : (p : ℕ) (r : Result (List ℕ × List ℕ)) → accepts r ≡ true → positionsOf (prepend p r) ≡ p ∷ positionsOf r
+positions-prepend p (ok b) h = refl
+positions-prepend p (fault n) h = absurd (false≢true h)
 
 -- a body has as many positions as were asked for
 pub body-length : (k next : ℕ) (bytes : List ℕ) → accepts (readBody k next bytes) ≡ true → length (positionsOf (readBody k next bytes)) ≡ k
@@ -123,7 +123,7 @@ body-length (suc k) next bytes h = go (readPosition next bytes) refl (λ p rest.
     go (ok r) e ih =
         let s = body-suc k next bytes (r .0) (r .1) e in
         let body = readBody k (r .0 + 1) (r .1) in
-        let a : accepts body ≡ true = sym (accepts-behind (r .0) body) ∙ sym (ap accepts s) ∙ h in
+        let a : accepts body ≡ true = sym (accepts-prepend (r .0) body) ∙ sym (ap accepts s) ∙ h in
         ap (λ (x : Result (List ℕ × List ℕ)). length (positionsOf x)) s
-        ∙ ap length (positions-behind (r .0) body a)
+        ∙ ap length (positions-prepend (r .0) body a)
         ∙ ap suc (ih (r .0) (r .1) a)

@@ -1,9 +1,9 @@
 -- Demand 2 from one call to the next: what a call of `read` gives on the bytes that a call of `write` wrote, and what a call of
 -- `write` gives on the list that a call of `read` accepted. The theorems are in proofs/CallToCall.antt.
+use Prim.Native.Nat.{ℕ}
 use mathlib.Core.Path.{_≡_}
 use mathlib.Core.Bool.{true}
 use mathlib.Core.List.{List, _++_}
-use Prim.Native.Nat.{ℕ}
 use lib.ListN.{length, drop}
 use Rattle.positions.specs.Encode.{rising}
 use Rattle.positions.specs.declared.Written.{Written}

@@ -9,7 +9,7 @@ use lib.ListN.{drop}
 use Rattle.positions.specs.Basics.{limit}
 use Rattle.positions.specs.Decode.{readBody}
 use Rattle.positions.specs.Inner.{readingIn}
-use Rattle.positions.proofs.ReadBody.{position-taken, body-fault, body-step, judged, judged-all, judged-behind, judged-left, judged-whole}
+use Rattle.positions.proofs.ReadBody.{position-taken, body-fault, body-step, judged, judged-all, judged-prepend, judged-left, judged-whole}
 use Rattle.positions.proofs.reader.judge.Statement.{statement}
 use Rattle.positions.proofs.reader.judge.Tie as tie
 
@@ -68,7 +68,7 @@ loop-again c =
     let body = readBody (l .left - 1) (p + 1) (drop (c .before .found2 .given .0 .1 .0) (a .file .now)) in
     let k : a .count - (l .left - 1) ≡ a .count - l .left + 1 = omega arith in (
       ap (λ (n : ℕ). judged n body) k
-          ∙ sym (judged-behind (a .count - l .left) p body)
+          ∙ sym (judged-prepend (a .count - l .left) p body)
           ∙ sym (ap (judged (a .count - l .left)) (body-step (l .left) (l .next) _ _ _ (c .before .before .before .before .loop-test .taken) e))
           ∙ l .inv .0,
       omega arith,

@@ -13,7 +13,7 @@ use Rattle.positions.specs.Basics.{limit}
 use Rattle.positions.specs.Decode.{readBody}
 use Rattle.positions.specs.Inner.{readingIn, accepts, positionsOf}
 use Rattle.positions.proofs.Stores.{sets-cons}
-use Rattle.positions.proofs.ReadBody.{position-taken, body-fault, body-step, accepts-behind, positions-behind}
+use Rattle.positions.proofs.ReadBody.{position-taken, body-fault, body-step, accepts-prepend, positions-prepend}
 use Rattle.positions.proofs.reader.store.Statement.{statement}
 use Rattle.positions.proofs.reader.store.Tie as tie
 
@@ -79,10 +79,10 @@ loop-again c =
     let p = c .before .found .given .0 .0 in
     let body = readBody (l .left - 1) (p + 1) (drop (c .before .found .given .0 .1 .0) (a .file .now)) in
     let step = body-step (l .left) (l .next) _ _ _ (c .before .before .before .before .loop-test .taken) e in
-    let good : accepts body ≡ true = sym (accepts-behind p body) ∙ sym (ap accepts step) ∙ l .inv .0 in (
+    let good : accepts body ≡ true = sym (accepts-prepend p body) ∙ sym (ap accepts step) ∙ l .inv .0 in (
       good,
       sets-cons (l .cells) (l .i) p (positionsOf body)
-          ∙ sym (ap (sets (l .cells) (l .i)) (ap positionsOf step ∙ positions-behind p body good))
+          ∙ sym (ap (sets (l .cells) (l .i)) (ap positionsOf step ∙ positions-prepend p body good))
           ∙ l .inv .1,
       length-set (l .cells) (l .i) p ∙ l .inv .2,
       omega arith,
