@@ -1,10 +1,10 @@
 -- How the hash method's table is made, a move less at a time: first the moves at which fewer than eight bits are asked,
 -- by doubling, then those at which the pattern shows the whole value.
 -- Assumes nothing.
-use Prim.Native.Nat.{ℕ, zero, suc, _+_, _-_, _*_, _/_, _%_, _^_, _≤_, _<_}
+use Prim.Native.Nat.{ℕ, suc, _+_, _-_, _*_, _/_, _%_, _^_, _≤_, _<_}
 use mathlib.Core.Path.{_≡_, refl, sym, ap, ap₂, _∙_}
 use mathlib.Core.Logic.{_↔_}
-use mathlib.Core.Bool.{Bool, true, false, cond}
+use mathlib.Core.Bool.{Bool, true, false}
 use mathlib.Core.List.{List, _++_}
 use native.Mathlib.Nat.{mod-eq-of-lt, mul-add-mod-self-right}
 use native.Mathlib.Numerals.{add-one}
@@ -21,7 +21,7 @@ use Rattle.rules.specs.Pattern.{Pattern}
 use Rattle.rules.specs.Hash.{meets, hashAgain}
 use Rattle.hash.specs.HashMoves.{Moves, Entered}
 use Rattle.matcher.specs.Tables.{Prepared}
-use Rattle.rules.proofs.Ranges.{same-test, not-true-false}
+use Rattle.rules.proofs.Ranges.{same-test, not-true-false, least-same}
 use Rattle.rules.proofs.Hash.{meets-load, meets-all}
 
 module _ (f : ℕ → Bool) (i k : ℕ) where
@@ -32,12 +32,6 @@ module _ (f : ℕ → Bool) (i k : ℕ) where
   least-unmet : f i ≡ false → least f i (suc k) ≡ least f (suc i) k
   unfolding least
   least-unmet h = rw h
-
-least-same : (f g : ℕ → Bool) (i k : ℕ) → ((p : ℕ) → i ≤ p → p < i + k → f p ≡ g p) → least f i k ≡ least g i k
-unfolding least
-least-same f g i zero h = refl
-least-same f g i (suc k) h =
-    rw (h i (omega arith) (omega arith)) (ap (cond (g i) i) (least-same f g (suc i) k (λ p l u. h p (omega arith) (omega arith))))
 
 module _ (w : Pattern) where
   -- a value of k bits meets the condition at d just if it is the pattern's k bits from p on

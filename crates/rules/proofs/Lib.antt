@@ -1,4 +1,5 @@
--- The laws of the definitions and the theorems about them; the files have the names of those in specs/.
+-- The laws of the definitions and the theorems about them. The files have the names of those in specs/, and `Padding` is
+-- about the bits of a text from n on and of a pattern from m on.
 pub mod Ranges
 pub mod Pattern
 pub mod Occurrence
@@ -9,3 +10,4 @@ pub mod Skip
 pub mod Wide
 pub mod Methods
 pub mod Machine
+pub mod Padding

@@ -245,6 +245,13 @@ least-is f i (suc k) = go (f i) refl (least-is f (suc i) k)
         first p u (inl q) = rw (← q) e
         first p u (inr q) = ih .before p q u
 
+-- two tests that are the same on the range have the same least number
+pub least-same : (f g : ℕ → Bool) (i k : ℕ) → ((p : ℕ) → i ≤ p → p < i + k → f p ≡ g p) → least f i k ≡ least g i k
+unfolding least
+least-same f g i zero h = refl
+least-same f g i (suc k) h =
+    rw (h i (omega arith) (omega arith)) (ap (cond (g i) i) (least-same f g (suc i) k (λ p l u. h p (omega arith) (omega arith))))
+
 -- greatest
 
 pub record Greatest (f : ℕ → Bool) (k j : ℕ) : Type 0 where
@@ -274,3 +281,9 @@ greatest-is f (suc k) = go (f k) refl (greatest f k) (greatest-is f k)
     go false e none h = λ p l. at-last e p (h p) l
     go false e (some j) h =
         record { below = omega arith; passes = h .passes; above = λ p l u. at-last e p (h .above p l) u }
+
+-- two tests that are the same below k have the same greatest number
+pub greatest-same : (f g : ℕ → Bool) (k : ℕ) → ((p : ℕ) → p < k → f p ≡ g p) → greatest f k ≡ greatest g k
+unfolding greatest
+greatest-same f g zero h = refl
+greatest-same f g (suc k) h = rw (h k (omega arith)) (ap (cond (g k) (some k)) (greatest-same f g k (λ p l. h p (omega arith))))
