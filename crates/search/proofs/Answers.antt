@@ -1,5 +1,5 @@
--- The promise of the search call leaves nothing open: each request has an answer that meets it, and only one. (The first
--- 4,224 cells of the scratch are free.)
+-- The promise of the search call leaves nothing open but the first 4,224 cells of the scratch after an accepted call: each
+-- request has an answer that meets it, and only one.
 use Prim.Native.Nat.{ℕ}
 use mathlib.Core.Path.{_≡_, refl, sym, ap, _∙_}
 use mathlib.Core.Bool.{cond}
@@ -16,7 +16,7 @@ use Rattle.search.specs.declared.Refusal.the-variants.{TextTooLong, Text
 use Rattle.search.specs.declared.Stop.{Stop}
 use Rattle.search.specs.declared.Stop.the-variants.{Done, Full, Spent}
 use Rattle.rules.specs.Machine.{Ending, done, spent, full, Run}
-use Rattle.search.specs.Verdict.{Request, Row, Verdict, refused, accepted, machine, verdict, numberOfRefusal, endingOf, Carries, Searched}
+use Rattle.search.specs.Verdict.{Request, Row, Verdict, refused, accepted, machine, verdict, numberOfRefusal, endingOf, scratchCells, Carries, Searched}
 use Rattle.search.proofs.Verdict.{in-order, refused-iff, accepted-fail, accepted-iff}
 
 -- back from a number to the refusal, and from an ending to the way to stop
@@ -77,19 +77,36 @@ carries-only a r c = λ i. record {
 accepted-not-refused : (v : Verdict Run) (r : Run) (k : ℕ) → v ≡ accepted r → v ≡ refused k → ⊥
 accepted-not-refused v r k p q = let z : _≡_ {A = ℕ} 0 1 = cc in omega arith
 
--- one answer, and one list as the call returns
-pub unique : (q : Request) (o p : Outcome) (l m s u : List ℕ) → Searched q o l s → Searched q p m u → (o ≡ p) × (l ≡ m)
-unique q (Accepted a) (Accepted b) l m s u c d = (
-  ap {B = Outcome} Accepted (carries-only a (machine q) (c .answer) ∙ sym (carries-only b (machine q) (d .answer))),
-  c .list-is ∙ sym (d .list-is),
-)
+-- "The first 4,224 scratch cells are free after an accepted call (the only part left free)": on all else two scratches agree
+abbrev pub SameScratch : Outcome → List ℕ → List ℕ → Type 0
+SameScratch (Accepted a) s u = (length s ≡ length u) × (drop scratchCells s ≡ drop scratchCells u)
+SameScratch (Refused r) s u = s ≡ u
+
+-- what two calls with the same request have in common
+pub record Same (o p : Outcome) (l m s u : List ℕ) : Type 0 where
+  pub outcome : o ≡ p
+  pub list : l ≡ m
+  pub scratch : SameScratch o s u
+
+-- one answer, one list and one scratch as the call returns
+pub unique : (q : Request) (o p : Outcome) (l m s u : List ℕ) → Searched q o l s → Searched q p m u → Same o p l m s u
+unique q (Accepted a) (Accepted b) l m s u c d =
+    record {
+      outcome = ap {B = Outcome} Accepted (carries-only a (machine q) (c .answer) ∙ sym (carries-only b (machine q) (d .answer)));
+      list = c .list-is ∙ sym (d .list-is);
+      scratch = (c .scratch-length ∙ sym (d .scratch-length), c .scratch-rest ∙ sym (d .scratch-rest));
+    }
 unique q (Accepted a) (Refused r) l m s u c d = absurd (accepted-not-refused (verdict q) _ _ (c .verdict-is) (d .verdict-is))
 unique q (Refused r) (Accepted a) l m s u c d = absurd (accepted-not-refused (verdict q) _ _ (d .verdict-is) (c .verdict-is))
 unique q (Refused r) (Refused t) l m s u c d =
     let first = c .verdict-is in
     let second = d .verdict-is in
     let same : numberOfRefusal r ≡ numberOfRefusal t = cc in
-    (ap {B = Outcome} Refused (sym (refusal-back r) ∙ ap refusalOf same ∙ refusal-back t), c .list-is ∙ sym (d .list-is))
+    record {
+      outcome = ap {B = Outcome} Refused (sym (refusal-back r) ∙ ap refusalOf same ∙ refusal-back t);
+      list = c .list-is ∙ sym (d .list-is);
+      scratch = c .scratch-is ∙ sym (d .scratch-is);
+    }
 
 -- each number of the table has its refusal
 Each : (ℕ → Type 0) → List ℕ → Type 0
