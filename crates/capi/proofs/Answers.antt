@@ -7,23 +7,30 @@ use mathlib.Core.Path.{_≡_, sym, _∙_}
 use mathlib.Core.List.{List}
 use lib.ListN.{length}
 use Rattle.rules.specs.declared.Method.{Method}
+use Rattle.rules.specs.Machine.{Run}
 use Rattle.search.specs.declared.Outcome.{Outcome}
 use Rattle.search.specs.declared.Outcome.the-variants.{Accepted, Refused}
-use Rattle.search.specs.Verdict.{Searched}
+use Rattle.search.specs.Verdict.{Verdict, refused, accepted, Searched}
 use Rattle.search.proofs.Answers.{Answered, answered}
 use Rattle.capi.specs.Told.{Tells}
-use Rattle.capi.specs.Scan.{methodNamed, known, Call, requestOf, Searches}
+use Rattle.capi.specs.Scan.{methodNamed, known, Call, requestOf, searchVerdict, ScratchAfter, Searches}
 use Rattle.capi.specs.Inner.{outcomeTells}
 use Rattle.capi.proofs.Calling.{searched-by}
 
--- one result, one list and one answer
+-- one result, one list, one answer, and one scratch but for the cells that are free
 pub unique : (q : Call) (r r′ : ℕ) (list list′ scratch scratch′ answer answer′ : List ℕ) → Searches q r list scratch answer
-    → Searches q r′ list′ scratch′ answer′ → (r ≡ r′) × (list ≡ list′) × (answer ≡ answer′)
+    → Searches q r′ list′ scratch′ answer′
+    → (r ≡ r′) × (list ≡ list′) × (answer ≡ answer′) × ScratchAfter (searchVerdict q) scratch′ scratch
 unique q r r′ list list′ scratch scratch′ answer answer′ s t = (
   s .tells .result-is ∙ sym (t .tells .result-is),
   s .list-is ∙ sym (t .list-is),
   s .tells .answer-is ∙ sym (t .tells .answer-is),
+  same (searchVerdict q) (s .scratch-is) (t .scratch-is),
 )
+  where
+    same : (v : Verdict Run) → ScratchAfter v (q .scratch) scratch → ScratchAfter v (q .scratch) scratch′ → ScratchAfter v scratch′ scratch
+    same (refused k) h g = h ∙ sym g
+    same (accepted a) h g = (h .0 ∙ sym (g .0), h .1 ∙ sym (g .1))
 
 -- the outcome of the library's call that a call from C is
 pub record AsSearched (q : Call) (x : Method) (r : ℕ) (list scratch answer : List ℕ) : Type 0 where

@@ -5,7 +5,7 @@ use Prim.Native.Nat.{ℕ, _≤_, _<_}
 use mathlib.Core.Path.{_≡_, refl, sym, _∙_, ap}
 use mathlib.Core.Bool.{Bool, true, false}
 use mathlib.Core.Logic.{_↔_, _⊎_, inl, inr}
-use mathlib.Core.List.{List, [], _∷_, List·Memᴰ, List·Memᴰ·head, List·Memᴰ·tail, List·Memᴰ·not-nil, List·Memᴰ·cases-cons}
+use mathlib.Core.List.{List, [], _∷_, map, List·Memᴰ, List·Memᴰ·head, List·Memᴰ·tail, List·Memᴰ·not-nil, List·Memᴰ·cases-cons}
 use mathlib.Core.Option.{Option, none, some}
 use native.Mathlib.Omega.{arith}
 use lib.Dec.{ltb, eqb}
@@ -19,13 +19,14 @@ use Rattle.search.specs.declared.Outcome.{Outcome}
 use Rattle.search.specs.declared.Outcome.the-variants.{Accepted, Refused}
 use Rattle.search.specs.declared.Refusal.{Refusal}
 use Rattle.search.specs.declared.Refusal.the-variants.{TextTooLong, TextBytesMissing, PatternLength, PatternBytesMissing, PatternTooShort, MarkBeyondPlaces, ScratchTooShort}
-use Rattle.search.specs.Verdict.{numberOfRefusal, Searched}
+use Rattle.search.specs.Verdict.{refused, verdict, numberOfRefusal, Searched}
 use Rattle.search.specs.Calls as library
 use Rattle.search.proofs.Calls as theorem
-use Rattle.capi.specs.Told.{Tells}
+use Rattle.capi.specs.Told.{unknownMethod, fewAnswerCells, Tells}
 use Rattle.capi.specs.Scan.{Named, known, unknown, methodNamed, stopNumber, requestOf, searchVerdict, Searches}
 use Rattle.capi.specs.Inner.{outcomeTells}
-use Rattle.capi.specs.CallList.{Made, callOf, markAfter, placesIn, stepsIn, stopIn, AllMade, lastMark, joined, allSteps, fullOf, fulls, later, lastStop, Whole}
+use Rattle.capi.specs.CallList.{callOf, Made, markAfter, placesIn, stepsIn, stopIn, AllMade, Seen, seenOf, seen, markBy, seenBy, machineSeen, lastMark, joined, allSteps, fullOf, fulls, later, lastStop, Whole}
+use Rattle.capi.proofs.Calling.{searched-by}
 use Rattle.capi.proofs.Answers.{as-searched}
 
 -- a way to stop by its number
@@ -50,37 +51,38 @@ module _ (t : Packed) (w : Pattern) (s : ℕ) (c : Made) where
     places : placesIn c ≡ []
     steps : stepsIn c ≡ 0
     stop : stopIn c ≡ none
+    verdict-mark : markBy (searchVerdict (callOf t w s (c .asked))) s ≡ s
 
   -- the call of the library that it is
   record Taken : Type 0 where
     call : library.Call
-    searched : Searched (library.requestOf t w s call) (call .outcome) (call .list-after) (call .scratch-after)
+    searched : Searched (library.requestOf t w s (call .asked)) (call .outcome) (call .list-after) (call .scratch-after)
     mark : markAfter s c ≡ library.markOf s (call .outcome)
     places : placesIn c ≡ library.placesOf (call .outcome) (call .list-after)
     steps : stepsIn c ≡ library.stepsOf (call .outcome)
     stop : stopIn c ≡ stopNumbers (library.stopOf (call .outcome))
-    budget : call .budget ≡ c .budget
+    budget : call .asked .budget ≡ c .asked .budget
+    verdict-mark : markBy (searchVerdict (callOf t w s (c .asked))) s ≡ library.markOf s (call .outcome)
 
-  skipped : eqb (c .result) 0 ≡ false → Skipped
-  skipped e = record { mark = rw e refl; places = rw e refl; steps = rw e refl; stop = rw e refl }
+  skipped : (k : ℕ) → searchVerdict (callOf t w s (c .asked)) ≡ refused k → c .result ≡ k → eqb k 0 ≡ false → Skipped
+  skipped k v r e =
+      record { mark = rw (r, e) refl; places = rw (r, e) refl; steps = rw (r, e) refl; stop = rw (r, e) refl; verdict-mark = rw v refl }
 
   module _ (x : Method) where
     made : Outcome → library.Call
     made o =
         record {
-          method = x;
-          budget = c .budget;
-          list = c .list;
-          scratch = c .scratch;
+          asked = record { method = x; budget = c .asked .budget; list = c .asked .list; scratch = c .asked .scratch };
           outcome = o;
           list-after = c .list-after;
           scratch-after = c .scratch-after;
         }
 
-    taken : (o : Outcome) → Searched (requestOf x (callOf t w s c)) o (c .list-after) (c .scratch-after)
-        → Tells (outcomeTells o) (c .answer) (c .result) (c .answer-after) → Taken
+    taken : (o : Outcome) → Searched (requestOf x (callOf t w s (c .asked))) o (c .list-after) (c .scratch-after)
+        → Tells (outcomeTells o) (c .asked .answer) (c .result) (c .answer-after)
+        → searchVerdict (callOf t w s (c .asked)) ≡ verdict (requestOf x (callOf t w s (c .asked))) → Taken
     unfolding made
-    taken (Accepted a) p h =
+    taken (Accepted a) p h v =
         record {
           call = made (Accepted a);
           searched = p;
@@ -89,8 +91,9 @@ module _ (t : Packed) (w : Pattern) (s : ℕ) (c : Made) where
           steps = rw (h .result-is, h .answer-is) refl;
           stop = rw (h .result-is, h .answer-is) refl;
           budget = refl;
+          verdict-mark = rw (v ∙ p .verdict-is) (sym (p .answer .mark));
         }
-    taken (Refused y) p h =
+    taken (Refused y) p h v =
         record {
           call = made (Refused y);
           searched = p;
@@ -99,23 +102,25 @@ module _ (t : Packed) (w : Pattern) (s : ℕ) (c : Made) where
           steps = rw (h .result-is, not-zero y) refl;
           stop = rw (h .result-is, not-zero y) refl;
           budget = refl;
+          verdict-mark = rw (v ∙ p .verdict-is) refl;
         }
 
-  each : Searches (callOf t w s c) (c .result) (c .list-after) (c .scratch-after) (c .answer-after) → Skipped ⊎ Taken
+  each : Searches (callOf t w s (c .asked)) (c .result) (c .list-after) (c .scratch-after) (c .answer-after) → Skipped ⊎ Taken
   unfolding searchVerdict
-  each p = by (methodNamed (c .method)) refl
+  each p = by (methodNamed (c .asked .method)) refl
     where
-      cells : (x : Method) → methodNamed (c .method) ≡ known x → (b : Bool) → ltb (length (c .answer)) 4 ≡ b → Skipped ⊎ Taken
+      cells : (x : Method) → methodNamed (c .asked .method) ≡ known x → (b : Bool) → ltb (length (c .asked .answer)) 4 ≡ b → Skipped ⊎ Taken
       cells x e true h =
           let told = rw h at (rw e at (p .tells .result-is)) in
-          inl (skipped (rw told refl))
+          inl (skipped fewAnswerCells (rw (e, h) refl) told refl)
       cells x e false h =
-          let a = as-searched (callOf t w s c) x _ _ _ _ e (ltb-false (length (c .answer)) 4 h) p in
-          inr (taken x (a .outcome) (a .searched) (a .tells))
+          let four = ltb-false (length (c .asked .answer)) 4 h in
+          let a = as-searched (callOf t w s (c .asked)) x _ _ _ _ e four p in
+          inr (taken x (a .outcome) (a .searched) (a .tells) (searched-by (callOf t w s (c .asked)) x e four))
 
-      by : (n : Named) → methodNamed (c .method) ≡ n → Skipped ⊎ Taken
-      by unknown e = let told = rw e at (p .tells .result-is) in inl (skipped (rw told refl))
-      by (known x) e = cells x e (ltb (length (c .answer)) 4) refl
+      by : (n : Named) → methodNamed (c .asked .method) ≡ n → Skipped ⊎ Taken
+      by unknown e = inl (skipped unknownMethod (rw e refl) (rw e at (p .tells .result-is)) refl)
+      by (known x) e = cells x e (ltb (length (c .asked .answer)) 4) refl
 
 -- the call of the library, among these, that a call from C is
 record Among (calls : List library.Call) (c : Made) : Type 0 where
@@ -123,7 +128,7 @@ record Among (calls : List library.Call) (c : Made) : Type 0 where
   member : List·Memᴰ call calls
   steps : stepsIn c ≡ library.stepsOf (call .outcome)
   stop : stopIn c ≡ stopNumbers (library.stopOf (call .outcome))
-  budget : call .budget ≡ c .budget
+  budget : call .asked .budget ≡ c .asked .budget
 
 -- it is one of them, or was refused before there was a search
 abbrev Kept : List library.Call → Made → Type 0
@@ -232,11 +237,11 @@ is-spent (some (full p)) h = let z : _≡_ {A = ℕ} 1 2 = cc in absurd (omega a
 
 -- the claims about each call, from those about the library's
 module _ (t : Packed) (w : Pattern) (calls : List library.Call) (all : library.Whole t w calls) (c : Made) where
-  spent-by : stopIn c ≡ some 2 → Kept calls c → stepsIn c ≡ c .budget
+  spent-by : stopIn c ≡ some 2 → Kept calls c → stepsIn c ≡ c .asked .budget
   spent-by h (inl k) = let none-is = k .1 in let z : _≡_ {A = ℕ} 0 1 = cc in absurd (omega arith)
   spent-by h (inr a) = a .steps ∙ all .spent-all (a .call) (a .member) (is-spent _ (sym (a .stop) ∙ h)) ∙ a .budget
 
-  within-by : Kept calls c → stepsIn c ≤ c .budget
+  within-by : Kept calls c → stepsIn c ≤ c .asked .budget
   within-by (inl k) = rw (k .0) (omega arith)
   within-by (inr a) = rw (a .steps, ← a .budget) (all .within (a .call) (a .member))
 
@@ -248,12 +253,39 @@ finished-by (some l) f e h =
     let is : stopNumber l ≡ e = cc in
     rw (sym is) (λ z. i .0 (done-zero l .0 z), λ u. done-zero l .1 (i .1 u))
 
+-- what C sees of each call is what the machine shows, or its refusal
+mark-shown : (t : Packed) (w : Pattern) (s : ℕ) (c : Made) → Skipped t w s c ⊎ Taken t w s c
+    → markAfter s c ≡ markBy (searchVerdict (callOf t w s (c .asked))) s
+mark-shown t w s c (inl k) = k .mark ∙ sym (k .verdict-mark)
+mark-shown t w s c (inr k) = k .mark ∙ sym (k .verdict-mark)
+
+seen-from : (t : Packed) (w : Pattern) (calls : List Made) (s : ℕ) → AllMade t w s calls
+    → seen s calls ≡ machineSeen t w s (map (λ (c : Made). c .asked) calls)
+unfolding seen machineSeen
+seen-from t w [] s m = refl
+seen-from t w (c ∷ cs) s m =
+    rw (← first, ← mark) (ap (λ (l : List Seen). seenOf s c ∷ l) (seen-from t w cs (markAfter s c) (m .1)))
+  where
+    mark : markAfter s c ≡ markBy (searchVerdict (callOf t w s (c .asked))) s
+    mark = mark-shown t w s c (each t w s c (m .0))
+
+    first : seenOf s c ≡ seenBy (callOf t w s (c .asked)) (searchVerdict (callOf t w s (c .asked)))
+    first =
+        let p = m .0 in
+        λ i. record {
+          result = p .tells .result-is i;
+          answer = p .tells .answer-is i;
+          list = p .list-is i;
+          mark = mark i;
+        }
+
 -- The theorem: every list of calls from C, the first from mark 0.
 pub whole : (t : Packed) (w : Pattern) (calls : List Made) → AllMade t w 0 calls → Whole t w calls
 whole t w calls m =
     let r = same t w calls 0 m in
     let all = theorem.whole t w (r .calls) (r .made) in
     record {
+      seen-is = seen-from t w calls 0 m;
       places-are = rw (r .places, r .mark) (all .places-are);
       rising = rw (r .places) (all .rising);
       exactly = λ p. rw (r .places, r .mark) (all .exactly p);

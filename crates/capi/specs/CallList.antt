@@ -4,7 +4,7 @@ use Prim.Native.Nat.{ℕ, _+_, _≤_, _<_}
 use mathlib.Core.Path.{_≡_}
 use mathlib.Core.Bool.{cond}
 use mathlib.Core.Logic.{_↔_}
-use mathlib.Core.List.{List, [], _∷_, _++_, List·Memᴰ}
+use mathlib.Core.List.{List, [], _∷_, _++_, map, List·Memᴰ}
 use mathlib.Core.Option.{Option, none, some}
 use lib.Dec.{eqb}
 use lib.ListN.{getD, take}
@@ -12,34 +12,41 @@ use Rattle.bits.specs.Packed.{Packed}
 use Rattle.rules.specs.Ranges.{Rising}
 use Rattle.rules.specs.Pattern.{Pattern}
 use Rattle.rules.specs.Occurrence.{Occurs, occurrences}
-use Rattle.capi.specs.Scan.{Call, Searches}
+use Rattle.rules.specs.Machine.{Run}
+use Rattle.search.specs.Verdict.{Verdict, refused, accepted}
+use Rattle.capi.specs.Told.{resultOf, answerAfter}
+use Rattle.capi.specs.Scan.{Call, searchVerdict, runTells, listAfter, Searches}
 
--- one call as it was made: what it was handed beside text, word and mark, what it returned, and its buffers then
-pub record Made : Type 0 where
+-- what a call is handed beside text, word and mark
+pub record Asked : Type 0 where
   pub method : ℕ
   pub budget : ℕ
   pub list : List ℕ
   pub scratch : List ℕ
   pub answer : List ℕ
-  pub result : ℕ
-  pub list-after : List ℕ
-  pub scratch-after : List ℕ
-  pub answer-after : List ℕ
 
-abbrev pub callOf : Packed → Pattern → ℕ → Made → Call
-callOf t w s c =
+abbrev pub callOf : Packed → Pattern → ℕ → Asked → Call
+callOf t w s q =
     record {
       text = t .bytes;
       n = t .count;
       word = w .bytes;
       m = w .count;
-      method = c .method;
+      method = q .method;
       mark = s;
-      budget = c .budget;
-      list = c .list;
-      scratch = c .scratch;
-      answer = c .answer;
+      budget = q .budget;
+      list = q .list;
+      scratch = q .scratch;
+      answer = q .answer;
     }
+
+-- one call as it was made: what it was handed, what it returned, and its buffers then
+pub record Made : Type 0 where
+  pub asked : Asked
+  pub result : ℕ
+  pub list-after : List ℕ
+  pub scratch-after : List ℕ
+  pub answer-after : List ℕ
 
 -- the first where the call returned 0, else the second
 abbrev pub ifAccepted {ℓ} : {A : Type ℓ} → Made → A → A → A
@@ -69,8 +76,44 @@ stopIn c = ifAccepted c (some (cell 3 c)) none
 abbrev pub AllMade : Packed → Pattern → ℕ → List Made → Type 0
 AllMade t w s [] = Unit
 AllMade t w s (c ∷ cs) =
-    Searches (callOf t w s c) (c .result) (c .list-after) (c .scratch-after) (c .answer-after)
+    Searches (callOf t w s (c .asked)) (c .result) (c .list-after) (c .scratch-after) (c .answer-after)
     × AllMade t w (markAfter s c) cs
+
+-- What C sees of a call: the number that it returned, its answer cells, its list, and the mark for the next call.
+pub record Seen : Type 0 where
+  pub result : ℕ
+  pub answer : List ℕ
+  pub list : List ℕ
+  pub mark : ℕ
+
+abbrev pub seenOf : ℕ → Made → Seen
+seenOf s c = record { result = c .result; answer = c .answer-after; list = c .list-after; mark = markAfter s c }
+
+-- what C saw of the calls as they were made, the first at the mark s
+unfoldable pub seen : ℕ → List Made → List Seen
+seen s [] = []
+seen s (c ∷ cs) = seenOf s c ∷ seen (markAfter s c) cs
+
+-- What the machine shows, or the refusal, 100 and 101 included, by the call's verdict; nothing here rests on what a call gave.
+abbrev pub markBy : Verdict Run → ℕ → ℕ
+markBy (refused number) s = s
+markBy (accepted r) s = r .mark
+
+abbrev pub seenBy : Call → Verdict Run → Seen
+seenBy q v =
+    record {
+      result = resultOf (runTells v);
+      answer = answerAfter (runTells v) (q .answer);
+      list = listAfter v (q .list);
+      mark = markBy v (q .mark);
+    }
+
+-- what it shows of one call after the other, the first at the mark s, each later one at the mark that the one before showed
+unfoldable pub machineSeen : Packed → Pattern → ℕ → List Asked → List Seen
+machineSeen t w s [] = []
+machineSeen t w s (q ∷ qs) =
+    let r = seenBy (callOf t w s q) (searchVerdict (callOf t w s q)) in
+    r ∷ machineSeen t w (r .mark) qs
 
 -- the mark left after all calls, the places that they wrote, their steps, how many stopped with 1, full, and how the last
 -- accepted one stopped
@@ -102,14 +145,16 @@ unfoldable pub lastStop : List Made → Option ℕ
 lastStop [] = none
 lastStop (c ∷ cs) = later (stopIn c) (lastStop cs)
 
--- The joined places are all occurrences before the last mark, rising, each once; the last accepted call stopped with 0,
+-- Each call's result, answer cells, list and mark are those that the machine gives, or those of its refusal; the joined
+-- places are all occurrences before the last mark, rising, each once; the last accepted call stopped with 0,
 -- done, just if the word no longer fits from the last mark on; a call that stopped with 2, spent, made all the steps of its
 -- budget, and no call made more; and the steps in all are at most the last mark and the calls that stopped with full.
 pub record Whole (t : Packed) (w : Pattern) (calls : List Made) : Type 0 where
+  pub seen-is : seen 0 calls ≡ machineSeen t w 0 (map (λ (c : Made). c .asked) calls)
   pub places-are : joined calls ≡ occurrences t w 0 (lastMark 0 calls)
   pub rising : Rising (joined calls)
   pub exactly : (p : ℕ) → List·Memᴰ p (joined calls) ↔ (Occurs t w p × (p < lastMark 0 calls))
   pub finished : (e : ℕ) → lastStop calls ≡ some e → (e ≡ 0) ↔ (t .count < lastMark 0 calls + w .count)
-  pub spent-all : (c : Made) → List·Memᴰ c calls → stopIn c ≡ some 2 → stepsIn c ≡ c .budget
-  pub within : (c : Made) → List·Memᴰ c calls → stepsIn c ≤ c .budget
+  pub spent-all : (c : Made) → List·Memᴰ c calls → stopIn c ≡ some 2 → stepsIn c ≡ c .asked .budget
+  pub within : (c : Made) → List·Memᴰ c calls → stepsIn c ≤ c .asked .budget
   pub bounded : allSteps calls ≤ lastMark 0 calls + fulls calls

@@ -3,7 +3,7 @@
 use Prim.Native.Nat.{ℕ, _+_, _≤_}
 use mathlib.Core.Path.{_≡_, refl, sym, ap, ap₂, _∙_}
 use mathlib.Core.Logic.{_↔_, _⊎_, inl, inr}
-use mathlib.Core.List.{List, [], _∷_, _++_, List·Memᴰ, List·Memᴰ·not-nil, List·Memᴰ·cases-cons}
+use mathlib.Core.List.{List, [], _∷_, _++_, map, List·Memᴰ, List·Memᴰ·not-nil, List·Memᴰ·cases-cons}
 use mathlib.Core.Option.{Option, none, some, Option·none-ne-some, Option·some-ne-none, Option·some-injective}
 use native.Mathlib.Omega.{arith}
 use lib.ListN.{length}
@@ -15,8 +15,8 @@ use Rattle.search.specs.declared.Outcome.the-variants.{Accepted, Refused
 use Rattle.rules.specs.Pattern.{Pattern}
 use Rattle.rules.specs.Occurrence.{places, occurrences}
 use Rattle.rules.specs.Machine.{Ending, done, spent, Left}
-use Rattle.search.specs.Verdict.{Request, rows, accepted, machine, verdict, endingOf, Searched}
-use Rattle.search.specs.Calls.{Call, requestOf, markOf, placesOf, stepsOf, stopOf, Made, lastMark, joined, allSteps, fullOf, fulls, later, lastStop, Whole}
+use Rattle.search.specs.Verdict.{Request, rows, refused, accepted, machine, verdict, numberOfRefusal, endingOf, Searched}
+use Rattle.search.specs.Calls.{requestOf, Call, markOf, placesOf, stepsOf, stopOf, Made, Result, answerOf, resultOf, results, resultBy, machineResults, lastMark, joined, allSteps, fullOf, fulls, later, lastStop, Whole}
 use Rattle.rules.proofs.Occurrence.{occurrences-append, occurrences-none, occurrences-rising, occurrences-exactly}
 use Rattle.rules.proofs.Machine.{left}
 use Rattle.search.proofs.Verdict.{accepted-iff}
@@ -60,7 +60,7 @@ one q (Accepted a) list scratch h c =
     }
 one q (Refused r) list scratch h c =
     record {
-      places-are = sym (occurrences-none (q .text) (q .pattern) (q .mark) (q .mark) (λ p l u. absurd (omega arith)));
+      places-are = sym (occurrences-none (q .text) (q .pattern) (q .mark) _ (λ p l u. absurd (omega arith)));
       low = omega arith;
       high = h;
       finished = λ e n. absurd (Option·none-ne-some _ n);
@@ -77,22 +77,26 @@ record From (t : Packed) (w : Pattern) (s : ℕ) (calls : List Call) : Type 0 wh
   high : lastMark s calls ≤ places t w
   finished : (e : Ending) → lastStop calls ≡ some e → (e ≡ done) ↔ (lastMark s calls ≡ places t w)
   unmoved : lastStop calls ≡ none → lastMark s calls ≡ s
-  spent-all : (c : Call) → List·Memᴰ c calls → stopOf (c .outcome) ≡ some spent → stepsOf (c .outcome) ≡ c .budget
-  within : (c : Call) → List·Memᴰ c calls → stepsOf (c .outcome) ≤ c .budget
+  spent-all : (c : Call) → List·Memᴰ c calls → stopOf (c .outcome) ≡ some spent → stepsOf (c .outcome) ≡ c .asked .budget
+  within : (c : Call) → List·Memᴰ c calls → stepsOf (c .outcome) ≤ c .asked .budget
   bounded : allSteps calls + s ≤ lastMark s calls + fulls calls
 
 -- a call in front of a list of calls
 module _ (t : Packed) (w : Pattern) (s : ℕ) (c : Call) (cs : List Call)
-    (first : One t w s (c .budget) (c .outcome) (c .list-after)) (rest : From t w (markOf s (c .outcome)) cs) where
+    (first : One t w s (c .asked .budget) (c .outcome) (c .list-after)) (rest : From t w (markOf s (c .outcome)) cs) where
   finished-from : (a b : Option Ending) → stopOf (c .outcome) ≡ a → lastStop cs ≡ b → (e : Ending) → later a b ≡ some e
       → (e ≡ done) ↔ (lastMark (markOf s (c .outcome)) cs ≡ places t w)
-  finished-from a none p q e h = rw (rest .unmoved q) (first .finished e (p ∙ h))
-  finished-from a (some l) p q e h = rest .finished e (q ∙ h)
+  finished-from none none p q e h = absurd (Option·none-ne-some _ h)
+  finished-from (some k) none p q e h = rw (rest .unmoved q) (first .finished e (p ∙ h))
+  finished-from none (some l) p q e h = rest .finished e (q ∙ h)
+  finished-from (some k) (some l) p q e h = let last : lastStop cs ≡ some e = cc in rest .finished e last
 
   unmoved-from : (a b : Option Ending) → stopOf (c .outcome) ≡ a → lastStop cs ≡ b → later a b ≡ none
       → lastMark (markOf s (c .outcome)) cs ≡ s
-  unmoved-from a none p q h = rest .unmoved q ∙ first .unmoved (p ∙ h)
-  unmoved-from a (some l) p q h = absurd (Option·some-ne-none _ h)
+  unmoved-from none none p q h = rest .unmoved q ∙ first .unmoved p
+  unmoved-from (some k) none p q h = absurd (Option·some-ne-none _ h)
+  unmoved-from none (some l) p q h = absurd (Option·some-ne-none _ h)
+  unmoved-from (some k) (some l) p q h = absurd (Option·some-ne-none _ h)
 
   each : (P : Call → Type 0) → P c → ((d : Call) → List·Memᴰ d cs → P d) → (d : Call) → List·Memᴰ d (c ∷ cs) → P d
   each P h f d m = go (List·Memᴰ·cases-cons m)
@@ -112,8 +116,8 @@ module _ (t : Packed) (w : Pattern) (s : ℕ) (c : Call) (cs : List Call)
         high = rest .high;
         finished = finished-from _ _ refl refl;
         unmoved = unmoved-from _ _ refl refl;
-        spent-all = each (λ d. stopOf (d .outcome) ≡ some spent → stepsOf (d .outcome) ≡ d .budget) (first .spent-all) (rest .spent-all);
-        within = each (λ d. stepsOf (d .outcome) ≤ d .budget) (first .within) (rest .within);
+        spent-all = each (λ d. stopOf (d .outcome) ≡ some spent → stepsOf (d .outcome) ≡ d .asked .budget) (first .spent-all) (rest .spent-all);
+        within = each (λ d. stepsOf (d .outcome) ≤ d .asked .budget) (first .within) (rest .within);
         bounded = omega (arith, first .bounded, rest .bounded);
       }
 
@@ -134,14 +138,39 @@ none-made t w s h =
 from : (t : Packed) (w : Pattern) (calls : List Call) (s : ℕ) → s ≤ places t w → Made t w s calls → From t w s calls
 from t w [] s h m = none-made t w s h
 from t w (c ∷ cs) s h m =
-    let first = one (requestOf t w s c) (c .outcome) (c .list-after) (c .scratch-after) h (m .0) in
+    let first = one (requestOf t w s (c .asked)) (c .outcome) (c .list-after) (c .scratch-after) h (m .0) in
     one-more t w s c cs first (from t w cs (markOf s (c .outcome)) (first .high) (m .1))
+
+-- each call gave what the machine gives, or its refusal
+result-is : (q : Request) (c : Call) → Searched q (c .outcome) (c .list-after) (c .scratch-after) → resultOf (q .mark) c ≡ resultBy q (verdict q)
+result-is q c h = go (c .outcome) h
+  where
+    go : (o : Outcome) → Searched q o (c .list-after) (c .scratch-after)
+        → record { answer = answerOf o; list = c .list-after; mark = markOf (q .mark) o } ≡ resultBy q (verdict q)
+    go (Accepted a) h =
+        let is = h .answer in
+        rw (h .verdict-is) (λ i. record {
+          answer = accepted (record { steps = is .steps i; hits = is .hits i; mark = is .mark i; ending = is .ending i });
+          list = h .list-is i;
+          mark = is .mark i;
+        })
+    go (Refused r) h =
+        rw (h .verdict-is) (λ i. record { answer = refused (numberOfRefusal r); list = h .list-is i; mark = q .mark })
+
+results-from : (t : Packed) (w : Pattern) (calls : List Call) (s : ℕ) → Made t w s calls
+    → results s calls ≡ machineResults t w s (map (λ (c : Call). c .asked) calls)
+unfolding results machineResults
+results-from t w [] s m = refl
+results-from t w (c ∷ cs) s m =
+    rw (← (result-is (requestOf t w s (c .asked)) c (m .0)))
+    (ap (λ (l : List Result). resultOf s c ∷ l) (results-from t w cs (markOf s (c .outcome)) (m .1)))
 
 -- The theorem: every list of calls, the first from mark 0.
 pub whole : (t : Packed) (w : Pattern) (calls : List Call) → Made t w 0 calls → Whole t w calls
 whole t w calls m =
     let f = from t w calls 0 (omega arith) m in
     record {
+      results-are = results-from t w calls 0 m;
       places-are = f .places-are;
       rising = rw (f .places-are) (occurrences-rising t w 0 (lastMark 0 calls));
       exactly = λ p.
