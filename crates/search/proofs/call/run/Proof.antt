@@ -4,6 +4,7 @@ use mathlib.Core.Path.{_≡_, refl, _∙_}
 use mathlib.Core.Bool.{true, false}
 use Prim.Native.Nat.{ℕ, _+_, _-_, _≤_, _<_}
 use native.Mathlib.Omega.{arith}
+use borrow.Author.Needs.{needs}
 use borrow.Author.Tests.{ltb-true, ltb-false}
 use denote.Ref.{now}
 use Rattle.matcher.specs.Progress.{textOf, patternOf, Advanced}
@@ -31,16 +32,6 @@ one c =
     let l = c .before .before .before .before .before .before .before .loop in
     advanced-step (a .method) (textOf (now (a .text)) (a .n)) (patternOf (now (a .word)) (a .m)) (a .mark .at .0) (a .budget) (now (a .list)) 0 (l .at) (l .steps) (l .hits) (l .list) (omega arith) (l .inv)
     _ _ _ _ (omega (arith, c .before .before .before .before .before .before .loop-test .taken, s .pre .0 .inside)) (ltb-true _ _ (c .before .before .before .before .before .if1 .taken)) (c .before .before .before .step .ensures)
-
--- that step and those behind it
-more : (c : tie.After-struct-known Inv-loop μ-loop)
-    → let a = c .before .before .before .before .before .before .before .before .before .before .before .before .before .before .before .before .before .before .before .before .args in
-    let r = c .before .before .before .before .advance .result in
-    Advanced (a .method) (textOf (now (a .text)) (a .n)) (patternOf (now (a .word)) (a .m)) (a .mark .at .0) (a .budget) (now (a .list)) 0 (r .at .0) (c .before .before .before .before .before .before .before .before .before .before .before .before .before .before .loop .steps + 1 + r .steps) (r .hits) (r .full) (c .before .before .before .before .advance .last .1 .1 .1 .1 .1 .1 .1 .1 .1 .0)
-more c =
-    let a = c .before .before .before .before .before .before .before .before .before .before .before .before .before .before .before .before .before .before .before .before .args in
-    advanced-join (a .method) (textOf (now (a .text)) (a .n)) (patternOf (now (a .word)) (a .m)) (a .mark .at .0) (a .budget) (now (a .list)) 0 _ (c .before .before .before .before .before .before .before .before .before .before .before .before .before .before .loop .steps + 1) _ _ _ _ _ _ _ (omega arith)
-    (rw (c .before .before .before .before .before .before .if2 .left) at (one (c .before .before .before .before .before .before .before))) (c .before .before .before .before .advance .ensures)
 
 sub-end : tie.Need-sub-end Inv-loop μ-loop
 sub-end c =
@@ -76,7 +67,8 @@ same-length c =
 returns : tie.Need-returns Inv-loop μ-loop
 returns c =
     let a = c .before .before .before .before .before .before .before .before .before .before .before .before .before .before .args in
-    ran-to-cut (a .method) (textOf (now (a .text)) (a .n)) (patternOf (now (a .word)) (a .m)) (a .mark .at .0) (a .budget) (now (a .list)) _ _ _ _ (rw (c .if2 .taken) at (one (c .before)))
+    let full : c .before .before .before .before .step .result .full ≡ true = search needs in
+    ran-to-cut (a .method) (textOf (now (a .text)) (a .n)) (patternOf (now (a .word)) (a .m)) (a .mark .at .0) (a .budget) (now (a .list)) _ _ _ _ (rw full at (one (c .before)))
 
 sub-advance : tie.Need-sub-advance Inv-loop μ-loop
 sub-advance c = omega (arith, one (c .before) .within)
@@ -87,6 +79,16 @@ advance-requires c κs =
     let made = rw (c .before .if2 .left) at (one (c .before .before)) in
     let same = writing-length _ 0 (made .found) _ _ (made .writing) in
     (s .pre .0, (s .pre .1 .0, (made .inside refl, omega (arith, same, made .writing .fits))))
+
+-- that step and those behind it
+more : (c : tie.After-struct-known Inv-loop μ-loop)
+    → let a = c .before .before .before .before .before .before .before .before .before .before .before .before .before .before .before .before .before .before .before .before .args in
+    let r = c .before .before .before .before .advance .result in
+    Advanced (a .method) (textOf (now (a .text)) (a .n)) (patternOf (now (a .word)) (a .m)) (a .mark .at .0) (a .budget) (now (a .list)) 0 (r .at .0) (c .before .before .before .before .before .before .before .before .before .before .before .before .before .before .loop .steps + 1 + r .steps) (r .hits) (r .full) (c .before .before .before .before .advance .last .1 .1 .1 .1 .1 .1 .1 .1 .1 .0)
+more c =
+    let a = c .before .before .before .before .before .before .before .before .before .before .before .before .before .before .before .before .before .before .before .before .args in
+    advanced-join (a .method) (textOf (now (a .text)) (a .n)) (patternOf (now (a .word)) (a .m)) (a .mark .at .0) (a .budget) (now (a .list)) 0 _ (c .before .before .before .before .before .before .before .before .before .before .before .before .before .before .loop .steps + 1) _ _ _ _ _ _ _ (omega arith)
+    (rw (c .before .before .before .before .before .before .if2 .left) at (one (c .before .before .before .before .before .before .before))) (c .before .before .before .before .advance .ensures)
 
 add-steps-2 : tie.Need-add-steps-2 Inv-loop μ-loop
 add-steps-2 c = omega (arith, more c .within, c .before .before .before .before .before .before .before .before .before .before .before .before .before .before .before .before .before .before .before .before .fits .budget)
