@@ -128,8 +128,8 @@ head-at bytes p =
     r : ℕ
     r = p % 8
 
-    behind : ℕ
-    behind = bitsAt bytes (p + 57) (7 - r)
+    rest : ℕ
+    rest = bitsAt bytes (p + 57) (7 - r)
 
     whole : 7 - r + r ≡ 7
     whole = omega arith
@@ -140,13 +140,13 @@ head-at bytes p =
     power : 2 ^ (7 - r) * 2 ^ r ≡ 2 ^ 7
     power = sym (pow-add 2 (7 - r) r) ∙ ap (λ (n : ℕ). 2 ^ n) whole
 
-    fits : behind * 2 ^ r < 2 ^ 7
+    fits : rest * 2 ^ r < 2 ^ 7
     fits = rw whole at (shl-lt (7 - r) r (bits-lt bytes (p + 57) (7 - r)))
 
-    parts : bitsAt bytes p (64 - r) ≡ bitsAt bytes p 57 * 2 ^ (7 - r) + behind
+    parts : bitsAt bytes p (64 - r) ≡ bitsAt bytes p 57 * 2 ^ (7 - r) + rest
     parts = ap (λ (n : ℕ). bitsAt bytes p n) apart ∙ bits-add bytes p 57 (7 - r)
 
-    moved : bitsAt bytes p (64 - r) * 2 ^ r ≡ bitsAt bytes p 57 * 2 ^ 7 + behind * 2 ^ r
+    moved : bitsAt bytes p (64 - r) * 2 ^ r ≡ bitsAt bytes p 57 * 2 ^ 7 + rest * 2 ^ r
     moved = rw (parts, ← power) (omega arith)
 
 -- The same where whole bytes are at hand: c bytes from the byte of bit p on, shifted, and the byte that follows them.
@@ -212,7 +212,7 @@ two-bytes-at bytes p h = go (decLe 1 (p % 8))
         let cut : 7 - (p + 7) % 8 ≡ 0 = omega arith in
         rw (last, cut) (one (omega arith))
 
--- with nothing behind them
+-- with nothing after them
 pub load-at-end : (bytes : List ℕ) (p c : ℕ) → 0 < c → length bytes ≤ p / 8 + c
     → (bitsAt bytes (p / 8 * 8) (c * 8) * 2 ^ (p % 8)) % 2 ^ (c * 8) ≡ bitsAt bytes p (c * 8)
 load-at-end bytes p c hc hl = sym (or-zero-r shifted) ∙ ap (bitOr shifted) (sym nothing) ∙ load-at bytes p c hc (rw none (lit< tt))
@@ -226,7 +226,7 @@ load-at-end bytes p c hc hl = sym (or-zero-r shifted) ∙ ap (bitOr shifted) (sy
     nothing : getD bytes (p / 8 + c) 0 / 2 ^ (8 - p % 8) ≡ 0
     nothing = rw (none, zero-div)
 
--- bytes joined by shifts and `or`: one byte more behind the k that are joined, with room for s bits behind it
+-- bytes joined by shifts and `or`: one byte more after the k that are joined, with room for s bits after it
 pub join-byte : (xs : List ℕ) (k s : ℕ) {x b : ℕ} → getD xs k 0 ≡ b → b < 256 → s ≤ 56
     → x ≡ bitsAt xs 0 (k * 8) * 2 ^ (8 + s) → bitOr x ((b * 2 ^ s) % 2 ^ 64) ≡ bitsAt xs 0 (suc k * 8) * 2 ^ s
 join-byte xs k s {x} {b} eb h l ex =
@@ -248,7 +248,7 @@ join-byte xs k s {x} {b} eb h l ex =
     more : bitsAt xs 0 (suc k * 8) ≡ joined * 256 + b
     more = bytes-more xs 0 k (rw there h) ∙ ap (λ (y : ℕ). joined * 256 + y) there
 
--- and the last one, behind which nothing comes
+-- and the last one, after which nothing comes
 pub join-last : (xs : List ℕ) (k : ℕ) {x b : ℕ} → getD xs k 0 ≡ b → b < 256
     → x ≡ bitsAt xs 0 (k * 8) * 256 → bitOr x b ≡ bitsAt xs 0 (suc k * 8)
 join-last xs k {x} {b} eb h ex = ap (bitOr x) unmoved ∙ join-byte xs k 0 eb h (lit≤ tt) ex ∙ mul-one _

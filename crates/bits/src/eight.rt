@@ -26,7 +26,7 @@ pub fn eight_bits(bytes: &[u8], n: u64, p: Place) -> Eight
     if 1073741824 < n {
         return Eight::Refused(Refusal::TooLong);
     }
-    if (bytes.len() as u64) < (n + 7) / 8 {
+    if (bytes.len() as u64) < crate::bytes_for(n) {
         return Eight::Refused(Refusal::FewBytes);
     }
     let at = p.0;

@@ -1,7 +1,7 @@
 // Reading bits of a packed run: the two units of position, one bit, eight bits with their refusals, and loads of
 // up to 64 bits for the matchers. The definitions that the contracts cite are in specs/Packed.antt and specs/Eight.antt.
 ghost use mathlib.Core.Path.{_≡_};
-ghost use Prim.Native.Nat.{_*_, _/_, _%_, _^_, _≤_, _<_};
+ghost use Prim.Native.Nat.{_+_, _*_, _/_, _%_, _^_, _≤_, _<_};
 ghost use Rattle.bits.specs.Packed.{bytesFor};
 
 pub mod bit;
@@ -37,6 +37,14 @@ impl ByteNo {
         ensures { λ r. ⌜ r .0 ≡ self .0 * 8 ⌝ }
     {
         Place((self.0 * 8) as u32)
+    }
+
+    // The bit at an offset from the left of the byte.
+    pub fn place_at(self, offset: u32) -> Place
+        requires { ⌜ (self .0 < 2 ^ 29) × (offset < 8) ⌝ }
+        ensures { λ r. ⌜ r .0 ≡ 8 * self .0 + offset ⌝ }
+    {
+        Place((self.0 * 8) as u32 + offset)
     }
 }
 

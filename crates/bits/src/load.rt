@@ -28,20 +28,21 @@ fn wide(x: u8) -> u64
 }
 
 // Byte b, 0 past the last one.
-fn byte_or_zero(bytes: &[u8], b: usize) -> u64
-    ensures { λ r. ⌜ r ≡ getD (now (bytes .entry)) b 0 ⌝ }
+fn byte_or_zero(bytes: &[u8], b: ByteNo) -> u64
+    ensures { λ r. ⌜ r ≡ getD (now (bytes .entry)) (b .0) 0 ⌝ }
 {
-    if b < bytes.len() { wide(bytes[b]) } else { 0 }
+    let at = b.0;
+    if at < bytes.len() { wide(bytes[at]) } else { 0 }
 }
 
 // The eight bits from p on.
 pub fn byte_at(bytes: &[u8], p: Place) -> u8
     ensures { λ r. ⌜ r ≡ bitsAt (now (bytes .entry)) (p .0) 8 ⌝ }
 {
-    let b = p.byte().0;
+    let b = p.byte();
     let r = p.offset();
     let left = (byte_or_zero(bytes, b) << r) % 256;
-    let right = byte_or_zero(bytes, b + 1) >> (8 - r);
+    let right = byte_or_zero(bytes, ByteNo(b.0 + 1)) >> (8 - r);
     (left | right) as u8
 }
 
@@ -50,39 +51,42 @@ pub fn byte_inside(bytes: &[u8], p: Place) -> usize
     requires { ⌜ (p .0 + 8 ≤ length (now bytes) * 8) × (p .0 + 8 ≤ 2 ^ 32) ⌝ }
     ensures { λ r. ⌜ r ≡ bitsAt (now (bytes .entry)) (p .0) 8 ⌝ }
 {
-    let first = p.0;
-    let last = first + 7;
-    let left = wide(bytes[(first / 8) as usize]);
-    let right = wide(bytes[(last / 8) as usize]);
-    (((left * 256 + right) >> (7 - last % 8)) % 256) as usize
+    let last = Place(p.0 + 7);
+    let b = p.byte().0;
+    let e = last.byte().0;
+    let left = wide(bytes[b]);
+    let right = wide(bytes[e]);
+    (((left * 256 + right) >> (7 - last.offset())) % 256) as usize
 }
 
 // Eight whole bytes from byte b on, the first one highest: one machine load and a byte swap.
-fn eight_bytes(bytes: &[u8], b: usize) -> u64
-    requires { ⌜ b + 8 ≤ length (now bytes) ⌝ }
-    ensures { λ r. ⌜ r ≡ bitsAt (now (bytes .entry)) (b * 8) 64 ⌝ }
+fn eight_bytes(bytes: &[u8], b: ByteNo) -> u64
+    requires { ⌜ b .0 + 8 ≤ length (now bytes) ⌝ }
+    ensures { λ r. ⌜ r ≡ bitsAt (now (bytes .entry)) (b .0 * 8) 64 ⌝ }
 {
+    let at = b.0;
     join(
-        bytes[b],
-        bytes[b + 1],
-        bytes[b + 2],
-        bytes[b + 3],
-        bytes[b + 4],
-        bytes[b + 5],
-        bytes[b + 6],
-        bytes[b + 7],
+        bytes[at],
+        bytes[at + 1],
+        bytes[at + 2],
+        bytes[at + 3],
+        bytes[at + 4],
+        bytes[at + 5],
+        bytes[at + 6],
+        bytes[at + 7],
     )
 }
 
 // The same near the end of the bytes, one at a time.
-fn last_bytes(bytes: &[u8], b: usize) -> u64
-    requires { ⌜ b + 8 ≤ 2 ^ 32 ⌝ }
-    ensures { λ r. ⌜ r ≡ bitsAt (now (bytes .entry)) (b * 8) 64 ⌝ }
+fn last_bytes(bytes: &[u8], b: ByteNo) -> u64
+    requires { ⌜ b .0 + 8 ≤ 2 ^ 32 ⌝ }
+    ensures { λ r. ⌜ r ≡ bitsAt (now (bytes .entry)) (b .0 * 8) 64 ⌝ }
 {
+    let at = b.0;
     let mut x: u64 = 0;
     let mut k: usize = 0;
     while k < 8 {
-        x = x * 256 + byte_or_zero(bytes, b + k);
+        x = x * 256 + byte_or_zero(bytes, ByteNo(at + k));
         k += 1;
     }
     x
@@ -93,17 +97,18 @@ pub fn word_inside(bytes: &[u8], p: Place) -> u64
     requires { ⌜ p .0 / 8 + 9 ≤ length (now bytes) ⌝ }
     ensures { λ r. ⌜ r ≡ bitsAt (now (bytes .entry)) (p .0) 64 ⌝ }
 {
-    let b = p.byte().0;
+    let b = p.byte();
     let r = p.offset();
-    (eight_bytes(bytes, b) << r) | (wide(bytes[b + 8]) >> (8 - r))
+    let ninth = b.0 + 8;
+    (eight_bytes(bytes, b) << r) | (wide(bytes[ninth]) >> (8 - r))
 }
 
 // The 64 bits from p on.
 pub fn word_at(bytes: &[u8], p: Place) -> u64
     ensures { λ r. ⌜ r ≡ bitsAt (now (bytes .entry)) (p .0) 64 ⌝ }
 {
-    let b = p.byte().0;
-    if b + 8 < bytes.len() {
+    let b = p.byte();
+    if b.0 + 8 < bytes.len() {
         word_inside(bytes, p)
     } else {
         last_bytes(bytes, b) << p.offset()
@@ -116,7 +121,7 @@ pub fn head_inside(bytes: &[u8], p: Place) -> u64
     requires { ⌜ p .0 / 8 + 8 ≤ length (now bytes) ⌝ }
     ensures { λ r. ⌜ r / 2 ^ 7 ≡ bitsAt (now (bytes .entry)) (p .0) 57 ⌝ }
 {
-    eight_bytes(bytes, p.byte().0) << p.offset()
+    eight_bytes(bytes, p.byte()) << p.offset()
 }
 
 // The 64 bits from byte b on: one machine load but near the end.
@@ -124,9 +129,8 @@ pub fn word_at_byte(bytes: &[u8], b: ByteNo) -> u64
     requires { ⌜ b .0 < 2 ^ 29 ⌝ }
     ensures { λ r. ⌜ r ≡ bitsAt (now (bytes .entry)) (b .0 * 8) 64 ⌝ }
 {
-    let at = b.0;
-    if at + 8 <= bytes.len() {
-        eight_bytes(bytes, at)
+    if b.0 + 8 <= bytes.len() {
+        eight_bytes(bytes, b)
     } else {
         word_at(bytes, b.place())
     }

@@ -10,12 +10,14 @@ returns : tie.Need-returns
 unfolding eightAt
 returns c = simp (lt-ltb _ _ (c .if1 .taken))
 
-add-if2 : tie.Need-add-if2
-add-if2 c = search needs
+bytes-for-requires : tie.Need-bytes-for-requires
+bytes-for-requires c κs = search needs
 
 returns-2 : tie.Need-returns-2
 unfolding eightAt
-returns-2 c = simp (le-ltb _ _ (c .before .if1 .left), lt-ltb _ _ (c .if2 .taken))
+returns-2 c =
+    let few = rw (c .before .bytes-for .ensures) at (c .if2 .taken) in
+    simp (le-ltb _ _ (c .before .before .if1 .left), lt-ltb _ _ few)
 
 cast-if3 : tie.Need-cast-if3
 cast-if3 c = search needs
@@ -25,16 +27,20 @@ add-if3 c = search needs
 
 returns-3 : tie.Need-returns-3
 unfolding eightAt
-returns-3 c = simp (le-ltb _ _ (c .before .before .if1 .left), le-ltb _ _ (c .before .if2 .left), lt-ltb _ _ (c .if3 .taken))
+returns-3 c =
+    let enough = rw (c .before .before .bytes-for .ensures) at (c .before .if2 .left) in
+    simp (le-ltb _ _ (c .before .before .before .if1 .left), le-ltb _ _ enough, lt-ltb _ _ (c .if3 .taken))
 
 byte-at-requires : tie.Need-byte-at-requires
 byte-at-requires c κs = search needs
 
 returns-4 : tie.Need-returns-4
 unfolding eightAt
-returns-4 c = simp (le-ltb _ _ (c .before .before .before .if1 .left), le-ltb _ _ (c .before .before .if2 .left), le-ltb _ _ (c .before .if3 .left), c .byte-at .ensures)
+returns-4 c =
+    let enough = rw (c .before .before .before .bytes-for .ensures) at (c .before .before .if2 .left) in
+    simp (le-ltb _ _ (c .before .before .before .before .if1 .left), le-ltb _ _ enough, le-ltb _ _ (c .before .if3 .left), c .byte-at .ensures)
 
 pub eight-bits-spec : {M : Type 1} → statement M
 eight-bits-spec =
     tie.close
-    (tie.spec returns add-if2 returns-2 cast-if3 add-if3 returns-3 byte-at-requires returns-4)
+    (tie.spec returns bytes-for-requires returns-2 cast-if3 add-if3 returns-3 byte-at-requires returns-4)

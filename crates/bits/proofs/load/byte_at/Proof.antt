@@ -22,8 +22,8 @@ cast-left c = search needs
 shl-left : tie.Need-shl-left
 shl-left c = search needs
 
-add-byte-or-zero : tie.Need-add-byte-or-zero
-add-byte-or-zero c = search needs
+add-t10 : tie.Need-add-t10
+add-t10 c = search needs
 
 byte-or-zero-requires-2 : tie.Need-byte-or-zero-requires-2
 byte-or-zero-requires-2 c κs = search needs
@@ -39,14 +39,15 @@ shr-right c = search needs
 
 value : tie.Need-returns
 value c =
-    let a = c .before .before .before .before .before .args in
+    let s = c .before .before .before .before .before in
+    let a = s .before .args in
     rw
-    (c .before .byte-or-zero .ensures, c .byte-or-zero2 .ensures, c .before .before .before .byte .ensures, c .before .before .offset .ensures)
-    (byte-load-at (now (a .bytes)) (a .p .0) (λ i. c .before .before .before .before .shared-slice-known .given i .fits))
+    (c .before .before .byte-or-zero .ensures, c .byte-or-zero2 .ensures, c .before .before .before .before .byte .ensures, c .before .before .before .offset .ensures)
+    (byte-load-at (now (a .bytes)) (a .p .0) (λ i. s .shared-slice-known .given i .fits))
 
 cast-result : tie.Need-cast-result
 cast-result c =
-    let a = c .before .before .before .before .before .args in
+    let a = c .before .before .before .before .before .before .args in
     record { fits = rw (value c) (bits-lt (now (a .bytes)) (a .p .0) 8) }
 
 returns : tie.Need-returns
@@ -61,7 +62,7 @@ byte-at-spec =
     byte-or-zero-requires
     cast-left
     shl-left
-    add-byte-or-zero
+    add-t10
     byte-or-zero-requires-2
     sub-right
     cast-right

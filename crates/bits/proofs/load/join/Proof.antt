@@ -1,4 +1,4 @@
--- `bits::load::join` meets its contract: the eight bytes are joined one behind the other.
+-- `bits::load::join` meets its contract: the eight bytes are joined one after the other.
 -- Assumes nothing.
 use mathlib.Core.Path.{_≡_, refl, sym, _∙_, ap}
 use mathlib.Core.List.{List, [], _∷_}

@@ -1,4 +1,4 @@
--- `bits::load::word_at` meets its contract: nine bytes are there, or the law of an unaligned load with nothing behind it.
+-- `bits::load::word_at` meets its contract: nine bytes are there, or the law of an unaligned load with nothing after it.
 -- Assumes nothing.
 use native.Mathlib.Omega.{arith}
 use denote.Ref.{now}
@@ -15,7 +15,7 @@ add-if1 : tie.Need-add-if1
 add-if1 c = search needs
 
 word-inside-requires : tie.Need-word-inside-requires
-word-inside-requires c κs = omega (arith, c .before .byte .ensures)
+word-inside-requires c κs = omega (arith, c .before .before .byte .ensures)
 
 last-bytes-requires : tie.Need-last-bytes-requires
 last-bytes-requires c κs = search needs
@@ -34,9 +34,10 @@ returns c = search needs
 
 returns-2 : tie.Need-returns-2
 returns-2 c =
-    let a = c .before .before .before .before .before .args in
-    rw (c .before .last-bytes .ensures, c .before .before .before .byte .ensures, c .offset .ensures)
-    (load-at-end (now (a .bytes)) (a .p .0) 8 (lit< tt) (omega (arith, c .before .before .before .byte .ensures)))
+    let b = c .before .before .before .before in
+    let a = b .before .before .args in
+    rw (c .before .last-bytes .ensures, b .byte .ensures, c .offset .ensures)
+    (load-at-end (now (a .bytes)) (a .p .0) 8 (lit< tt) (omega (arith, b .byte .ensures)))
 
 pub word-at-spec : {M : Type 1} → statement M
 word-at-spec =

@@ -25,7 +25,7 @@ returns c = search needs
 
 returns-2 : tie.Need-returns-2
 returns-2 c =
-    let a = c .before .before .before .before .args in
+    let a = c .before .before .before .before .before .args in
     c .word-at .ensures ∙ ap (λ (p : ℕ). bitsAt (now (a .bytes)) p 64) (c .before .place .ensures)
 
 pub word-at-byte-spec : {M : Type 1} → statement M

@@ -1,4 +1,4 @@
--- `bits::load::word_inside` meets its contract: the law of an unaligned load, at eight bytes with a byte behind them.
+-- `bits::load::word_inside` meets its contract: the law of an unaligned load, at eight bytes with a byte after them.
 -- Assumes nothing.
 use Prim.Native.Nat.{_+_, _/_}
 use native.Mathlib.Omega.{arith}
@@ -15,6 +15,9 @@ byte-requires c κs = search needs
 offset-requires : tie.Need-offset-requires
 offset-requires c κs = search needs
 
+add-ninth : tie.Need-add-ninth
+add-ninth c = search needs
+
 eight-bytes-requires : tie.Need-eight-bytes-requires
 eight-bytes-requires c κs = search needs
 
@@ -23,9 +26,6 @@ cast-result c = search needs
 
 shl-result : tie.Need-shl-result
 shl-result c = search needs
-
-add-wide : tie.Need-add-wide
-add-wide c = search needs
 
 shared-slice-read-wide : tie.Need-shared-slice-read-wide
 shared-slice-read-wide c = search needs
@@ -44,10 +44,10 @@ shr-result c = search needs
 
 returns : tie.Need-returns
 returns c =
-    let s = c .before .before .before .before .before in
+    let s = c .before .before .before .before .before .before in
     let a = s .before .args in
     rw
-    (c .before .before .eight-bytes .ensures, c .wide .ensures, c .before .before .before .before .byte .ensures, c .before .before .before .offset .ensures)
+    (c .before .before .eight-bytes .ensures, c .wide .ensures, c .before .before .before .before .before .byte .ensures, c .before .before .before .before .offset .ensures)
     (load-at (now (a .bytes)) (a .p .0) 8 (lit< tt) (s .shared-slice-known .given (a .p .0 / 8 + 8) .fits))
 
 pub word-inside-spec : {M : Type 1} → statement M
@@ -56,10 +56,10 @@ word-inside-spec =
     (tie.spec
     byte-requires
     offset-requires
+    add-ninth
     eight-bytes-requires
     cast-result
     shl-result
-    add-wide
     shared-slice-read-wide
     wide-requires
     sub-result
