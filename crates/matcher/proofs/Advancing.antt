@@ -1,4 +1,4 @@
--- Laws of steps made one behind the other with their list: none, one, some that find nothing, and some more behind them.
+-- Laws of steps made one after the other with their list: none, one, some that find nothing, and some more after them.
 -- Assumes nothing.
 use mathlib.Core.Path.{_≡_, refl, sym, ap, _∙_}
 use mathlib.Core.Bool.{Bool, true, false, cond, true≢false}
@@ -80,7 +80,7 @@ module _ (x : Method) (t : Packed) (w : Pattern) where
         stops = λ _. cut-here s budget (length before - had) at l b few (u .mark);
       }
 
-  -- some steps, and some more behind them
+  -- some steps, and some more after them
   pub advanced-join : (s budget : ℕ) (before : List ℕ) (had at steps hits : ℕ) (list : List ℕ) (at' more hits' : ℕ) (no-cell : Bool) (list' : List ℕ)
       → had ≤ length before → Advanced x t w s budget before had at steps hits false list → Advanced x t w at (budget - steps) list hits at' more hits' no-cell list'
       → Advanced x t w s budget before had at' (steps + more) hits' no-cell list'

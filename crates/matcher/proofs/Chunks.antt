@@ -86,9 +86,9 @@ module _ (text word : List ℕ) (m s : ℕ) where
   none-passed h = record { below = h; bytes = omega arith; agree = λ j l. absurd (omega arith) }
 
   -- so the pattern's next load is one from a byte on
-  pub next-byte : {y : ℕ} (o : ℕ) → Passed o → y ≡ bitsAt word (o / 8 * 8) 64 → y ≡ bitsAt word o 64
-  next-byte o p f =
-      let there : o / 8 * 8 ≡ o = omega (arith, p .bytes) in
+  pub next-byte : {y b : ℕ} (o : ℕ) → Passed o → b ≡ o / 8 → y ≡ bitsAt word (b * 8) 64 → y ≡ bitsAt word o 64
+  next-byte {y} {b} o p e f =
+      let there : b * 8 ≡ o = omega (arith, p .bytes) in
       rw there at f
 
   pub next-differs : {x y : ℕ} (o : ℕ) → o + 64 < m → x ≡ bitsAt text (s + o) 64 → y ≡ bitsAt word o 64 → (x ≡ y → ⊥)

@@ -1,4 +1,4 @@
--- Laws of a part of the machine's run: parts join, one step is a part, and how a run ends behind a part.
+-- Laws of a part of the machine's run: parts join, one step is a part, and how a run ends after a part.
 -- Assumes nothing.
 use mathlib.Core.Path.{_≡_, refl, sym, ap, _∙_}
 use mathlib.Core.List.{List, [], _++_}

@@ -46,7 +46,7 @@ sets-append l i (u ∷ us) vs =
     let there : suc i + length us ≡ i + suc (length us) = omega arith in
     sets-append (set l i u) (suc i) us vs ∙ ap (λ (n : ℕ). sets (sets (set l i u) (suc i) us) n vs) there
 
--- places written behind others
+-- places written after others
 pub writing-append : (before : List ℕ) (had : ℕ) (found list : List ℕ) (hits : ℕ) (more list' : List ℕ) (hits' : ℕ) → Writing before had found list hits
     → Writing list hits more list' hits' → Writing before had (found ++ more) list' hits'
 writing-append before had found list hits more list' hits' u v =

@@ -48,7 +48,7 @@ unfoldable pub Reaches : Method → Packed → Pattern → ℕ → ℕ → List 
 Reaches x t w s k found at =
     (b cells : ℕ) → length found ≤ cells → run x t w (k + b) s cells ≡ after k found (run x t w b at (cells - length found))
 
--- places written to a list one behind the other: those found stand in it from cell `had` on, and `hits` cells are written
+-- places written to a list one after the other: those found stand in it from cell `had` on, and `hits` cells are written
 pub record Writing (before : List ℕ) (had : ℕ) (found list : List ℕ) (hits : ℕ) : Type 0 where
   pub cells : list ≡ sets before had found
   pub count : hits ≡ had + length found

@@ -24,7 +24,7 @@ pub record PlainTables (w : Pattern) (cells : List ℕ) : Type 0 where
   pub mask-is : (i k j : ℕ) → i < 8 → k < rowChunks (w .count) → j < 64
       → bitOf 64 (getD cells (16 * k + 8 + i) 0) j ≡ maskBit w i (8 * k + j / 8) (j % 8)
 
--- hash: in cell B the least d in 1..m that meets the condition for B. Where H(B) is not 0 this is H(B), else the move behind.
+-- hash: in cell B the least d in 1..m that meets the condition for B. Where H(B) is not 0 this is H(B), else the move after a comparison, G.
 pub record HashTables (w : Pattern) (cells : List ℕ) : Type 0 where
   pub move-is : (B : ℕ) → B < 256 → getD cells B 0 ≡ hashAgain w B
 
@@ -63,7 +63,7 @@ cellsFor Hash m = 256
 cellsFor Skip m = 256 + m
 cellsFor Wide m = 2 * (63 + m)
 
--- the tables are made, and the cells behind them are as they were
+-- the tables are made, and the cells after them are as they were
 pub record Prepared (x : Method) (w : Pattern) (before cells : List ℕ) : Type 0 where
   pub tables : Tables x w cells
   pub size : length cells ≡ length before

@@ -31,7 +31,7 @@ pub fn head_of(word: &[u8], m: u32) -> Head
     }
 }
 
-// Whether the pattern stands at s, by all of its bits, where the text goes on far enough behind them that no load needs a
+// Whether the pattern stands at s, by all of its bits, where the text goes on far enough after them that no load needs a
 // test for its end; the last load overlaps the one before it.
 fn stands_inside(text: &[u8], word: &[u8], m: u32, s: Place) -> bool
     requires { ⌜ (0 < m) × (m ≤ 2048) × (s .0 ≤ 2 ^ 30) × (s .0 / 8 + m / 8 + 9 ≤ length (now text)) ⌝ }
@@ -44,9 +44,7 @@ fn stands_inside(text: &[u8], word: &[u8], m: u32, s: Place) -> bool
     let at = s.0;
     let mut o = 0u32;
     while o + 64 < m {
-        if load::word_inside(text, Place(at + o))
-            != load::word_at_byte(word, ByteNo((o / 8) as usize))
-        {
+        if load::word_inside(text, Place(at + o)) != load::word_at_byte(word, Place(o).byte()) {
             return false;
         }
         o += 64;
@@ -78,7 +76,7 @@ pub fn stands(text: &[u8], word: &[u8], m: u32, s: Place) -> bool
     requires { ⌜ (0 < m) × (m ≤ 2048) × (s .0 ≤ 2 ^ 30) ⌝ }
     ensures { λ r. ⌜ r ≡ matches (textOf (now (text .entry)) 0) (patternOf (now (word .entry)) m) (s .0) ⌝ }
 {
-    if s.byte().0 + (m / 8) as usize + 9 <= text.len() {
+    if s.byte().0 + Place(m).byte().0 + 9 <= text.len() {
         return stands_inside(text, word, m, s);
     }
     stands_near_end(text, word, m, s)

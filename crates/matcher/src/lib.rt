@@ -14,7 +14,7 @@ pub struct Found {
     pub full: bool,
 }
 
-// What steps made one behind the other leave: the same, and how many they are.
+// What steps made one after the other leave: the same, and how many they are.
 pub struct Advance {
     pub at: Place,
     pub steps: u32,

@@ -48,17 +48,17 @@ add-t17 c = omega arith
 word-inside-requires-2 : tie.Need-word-inside-requires-2 Inv-loop μ-loop
 word-inside-requires-2 c κs = omega (arith, c .before .before .before .before .before .pre)
 
-cast-t23 : tie.Need-cast-t23 Inv-loop μ-loop
-cast-t23 c = omega arith
+byte-requires : tie.Need-byte-requires Inv-loop μ-loop
+byte-requires c κs = search needs
 
 word-at-byte-requires-2 : tie.Need-word-at-byte-requires-2 Inv-loop μ-loop
-word-at-byte-requires-2 c κs = omega arith
+word-at-byte-requires-2 c κs = omega (arith, c .byte .ensures)
 
 returns-2 : tie.Need-returns-2 Inv-loop μ-loop
 returns-2 c =
-    let l = c .before .before .before .before .loop in
-    next-differs _ _ _ _ (l .o) (omega arith) (c .before .before .word-inside2 .ensures)
-    (next-byte _ _ _ _ (l .o) (l .inv) (c .before .word-at-byte2 .ensures)) (c .if2 .taken)
+    let l = c .before .before .before .before .before .loop in
+    next-differs _ _ _ _ (l .o) (omega arith) (c .before .before .before .word-inside2 .ensures)
+    (next-byte _ _ _ _ (l .o) (l .inv) (c .before .before .byte .ensures) (c .before .word-at-byte2 .ensures)) (c .if2 .taken)
 
 add-o : tie.Need-add-o Inv-loop μ-loop
 add-o c = omega arith
@@ -68,21 +68,21 @@ loop-less c = omega arith
 
 loop-again : tie.Need-loop-again Inv-loop μ-loop
 loop-again c =
-    let l = c .before .before .before .before .loop in
-    next-agrees _ _ _ _ (l .o) (l .inv) (omega arith) (c .before .before .word-inside2 .ensures)
-    (next-byte _ _ _ _ (l .o) (l .inv) (c .before .word-at-byte2 .ensures)) (c .if2 .left)
+    let l = c .before .before .before .before .before .loop in
+    next-agrees _ _ _ _ (l .o) (l .inv) (omega arith) (c .before .before .before .word-inside2 .ensures)
+    (next-byte _ _ _ _ (l .o) (l .inv) (c .before .before .byte .ensures) (c .before .word-at-byte2 .ensures)) (c .if2 .left)
 
-sub-t26 : tie.Need-sub-t26 Inv-loop μ-loop
-sub-t26 c = omega arith
+sub-t25 : tie.Need-sub-t25 Inv-loop μ-loop
+sub-t25 c = omega arith
 
-add-t27 : tie.Need-add-t27 Inv-loop μ-loop
-add-t27 c = omega arith
+add-t26 : tie.Need-add-t26 Inv-loop μ-loop
+add-t26 c = omega arith
 
 word-inside-requires-3 : tie.Need-word-inside-requires-3 Inv-loop μ-loop
 word-inside-requires-3 c κs = omega (arith, c .before .before .before .before .before .pre)
 
-sub-t30 : tie.Need-sub-t30 Inv-loop μ-loop
-sub-t30 c = omega arith
+sub-t29 : tie.Need-sub-t29 Inv-loop μ-loop
+sub-t29 c = omega arith
 
 word-at-requires : tie.Need-word-at-requires Inv-loop μ-loop
 word-at-requires c κs = search needs
@@ -109,15 +109,15 @@ stands-inside-spec =
     add-loop
     add-t17
     word-inside-requires-2
-    cast-t23
+    byte-requires
     word-at-byte-requires-2
     returns-2
     add-o
     loop-less
     loop-again
-    sub-t26
-    add-t27
+    sub-t25
+    add-t26
     word-inside-requires-3
-    sub-t30
+    sub-t29
     word-at-requires
     returns-3)
