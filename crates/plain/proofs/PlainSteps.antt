@@ -59,7 +59,7 @@ module _ (t : Packed) (w : Pattern) where
         (advanced-more Plain t w from budget before had at (at - from) hits list h a p (p - at)
         (rw there at (passed at (p - at) (omega arith) (λ q k u. f q k (omega arith)))) (omega arith) i)
 
-    -- and the step at the place behind them
+    -- and the step at the place after them
     pub step-at : (p : ℕ) → at ≤ p → p < places t w → p < from + budget → ((q : ℕ) → at ≤ q → q < p → matches t w q ≡ false)
         → (at' hits' : ℕ) (no-cell : Bool) (list' : List ℕ) → Stepped Plain t w p list hits at' hits' no-cell list'
         → Advanced Plain t w from budget before had at' (p + 1 - from) hits' no-cell list'

@@ -43,22 +43,22 @@ with-first n f r first iff = (all, λ g. iff .1 (λ k l u. g k (omega arith) u))
 
 module _ (text cells : List ℕ) where
   -- a cell read at its place in the table, and the eight bytes of the text at theirs
-  pub cell-read : (s k x : ℕ) → x ≡ bitsAt text ((s / 8 + 8 * k) * 8) 64
-      → eqb (bitAnd x (getD cells (16 * k + s % 8 + 8) 0)) (getD cells (16 * k + s % 8) 0) ≡ cellFits text cells s k
+  pub cell-read : (s k b row x : ℕ) → b ≡ (s + 64 * k) / 8 → row ≡ s % 8 → x ≡ bitsAt text (b * 8) 64
+      → eqb (bitAnd x (getD cells (16 * k + row + 8) 0)) (getD cells (16 * k + row) 0) ≡ cellFits text cells s k
   unfolding cellFits
-  cell-read s k x e =
-      let bytes : (s / 8 + 8 * k) * 8 ≡ 8 * (s / 8) + 64 * k = omega arith in
-      let mask : 16 * k + s % 8 + 8 ≡ 16 * k + 8 + s % 8 = omega arith in
-      ap₂ (λ (y z : ℕ). eqb (bitAnd y (getD cells z 0)) (getD cells (16 * k + s % 8) 0)) (e ∙ ap (λ (n : ℕ). bitsAt text n 64) bytes) mask
+  cell-read s k b row x byte offset e =
+      let bytes : b * 8 ≡ 8 * (s / 8) + 64 * k = omega arith in
+      let mask : 16 * k + row + 8 ≡ 16 * k + 8 + s % 8 = omega arith in
+      ap₂ (λ (y z : ℕ). eqb (bitAnd y (getD cells z 0)) (getD cells (16 * k + row) 0)) (e ∙ ap (λ (n : ℕ). bitsAt text n 64) bytes) mask
+      ∙ rw offset
 
   -- the same of the first cells of the eight rows at byte b
   block-cell : (b p x : ℕ) → p / 8 ≡ b → x ≡ bitsAt text (b * 8) 64
       → cellFits text cells p 0 ≡ eqb (bitAnd x (getD cells (8 + p % 8) 0)) (getD cells (p % 8) 0)
   block-cell b p x byte e =
-      let bytes : b * 8 ≡ (p / 8 + 8 * 0) * 8 = omega arith in
       let mask : 16 * 0 + p % 8 + 8 ≡ 8 + p % 8 = omega arith in
       let row : 16 * 0 + p % 8 ≡ p % 8 = omega arith in
-      sym (cell-read p 0 x (e ∙ ap (λ (n : ℕ). bitsAt text n 64) bytes))
+      sym (cell-read p 0 b (p % 8) x (omega arith) refl e)
       ∙ ap₂ (λ (y z : ℕ). eqb (bitAnd x (getD cells y 0)) (getD cells z 0)) mask row
 
   -- rows that do not agree rule their places out

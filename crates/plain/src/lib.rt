@@ -97,16 +97,16 @@ fn in_blocks(text: &[u8], cells: &[u64], from: ByteNo, limit: Place) -> Place
     requires { ⌜ (16 ≤ length (now cells)) × (limit .0 ≤ 2 ^ 30 + 1) × (8 * from .0 ≤ limit .0 + 8) ⌝ }
     ensures { λ r. ⌜ (8 * from .0 ≤ r .0) × (r .0 ≤ limit .0 + 8) × ((p : ℕ) → 8 * from .0 ≤ p → p < r .0 → cellFits (now (text .entry)) (now (cells .entry)) p 0 ≡ false) × (r .0 < limit .0 → cellFits (now (text .entry)) (now (cells .entry)) (r .0) 0 ≡ true) ⌝ }
 {
-    let end = limit.0 as usize;
-    let mut b = from.0;
-    while 8 * b < end {
-        let r = first_row(cells, load::word_at_byte(text, ByteNo(b)), 0);
+    let end = limit.0;
+    let mut b = from;
+    while b.place().0 < end {
+        let r = first_row(cells, load::word_at_byte(text, b), 0);
         if r < 8 {
-            return Place((8 * b + r) as u32);
+            return b.place_at(r as u32);
         }
-        b += 1;
+        b = ByteNo(b.0 + 1);
     }
-    Place((8 * b) as u32)
+    b.place()
 }
 
 // The first place from s on that the first cell of its row does not rule out, or one from limit on.
@@ -114,13 +114,12 @@ fn candidate(text: &[u8], cells: &[u64], s: Place, limit: Place) -> Place
     requires { ⌜ (16 ≤ length (now cells)) × (limit .0 ≤ 2 ^ 30 + 1) × (s .0 < limit .0) ⌝ }
     ensures { λ r. ⌜ (s .0 ≤ r .0) × (r .0 ≤ limit .0 + 8) × ((p : ℕ) → s .0 ≤ p → p < r .0 → cellFits (now (text .entry)) (now (cells .entry)) p 0 ≡ false) × (r .0 < limit .0 → cellFits (now (text .entry)) (now (cells .entry)) (r .0) 0 ≡ true) ⌝ }
 {
-    let at = s.0 as usize;
-    let b = at / 8;
-    let r = first_row(cells, load::word_at_byte(text, ByteNo(b)), at % 8);
+    let b = s.byte();
+    let r = first_row(cells, load::word_at_byte(text, b), s.offset() as usize);
     if r < 8 {
-        return Place((8 * b + r) as u32);
+        return b.place_at(r as u32);
     }
-    in_blocks(text, cells, ByteNo(b + 1), limit)
+    in_blocks(text, cells, ByteNo(b.0 + 1), limit)
 }
 
 // Whether the cells of the row from cell `from` on agree at place s.
@@ -129,11 +128,13 @@ fn row_fits(text: &[u8], m: u32, cells: &[u64], s: Place, from: usize) -> bool
     ensures { λ r. ⌜ (r ≡ true) ↔ ((k : ℕ) → from ≤ k → k < rowChunks m → cellFits (now (text .entry)) (now (cells .entry)) (s .0) k ≡ true) ⌝ }
 {
     let chunks = ((m + 70) / 64) as usize;
-    let at = s.0 as usize;
+    let at = s.0;
+    let row = s.offset() as usize;
     let mut k = from;
     while k < chunks {
-        let c = 16 * k + at % 8;
-        if load::word_at_byte(text, ByteNo(at / 8 + 8 * k)) & cells[c + 8] != cells[c] {
+        let c = 16 * k + row;
+        let b = Place(at + 64 * k as u32).byte();
+        if load::word_at_byte(text, b) & cells[c + 8] != cells[c] {
             return false;
         }
         k += 1;

@@ -13,19 +13,16 @@ use Rattle.plain.proofs.in_blocks.Statement.{statement}
 use Rattle.plain.proofs.in_blocks.Tie as tie
 
 abbrev Inv-loop : tie.InvT-loop
-Inv-loop text cells end b₀ b = (b₀ ≤ b) × (8 * b ≤ end + 8) × Between (λ p. cellFits text cells p 0 ≡ false) (8 * b₀) (8 * b)
+Inv-loop text cells end b₀ b = (b₀ .0 ≤ b .0) × (8 * b .0 ≤ end + 8) × Between (λ p. cellFits text cells p 0 ≡ false) (8 * b₀ .0) (8 * b .0)
 
 abbrev μ-loop : tie.MeasureT-loop
-μ-loop text cells end b₀ b = end - 8 * b
-
-cast-end : tie.Need-cast-end Inv-loop μ-loop
-cast-end c = search needs
+μ-loop text cells end b₀ b = end - 8 * b .0
 
 loop-holds : tie.Need-loop-holds Inv-loop μ-loop
 loop-holds c = (omega arith, omega arith, between-none _ _)
 
-mul-loop : tie.Need-mul-loop Inv-loop μ-loop
-mul-loop c = search needs
+place-requires : tie.Need-place-requires Inv-loop μ-loop
+place-requires c κs = search needs
 
 word-at-byte-requires : tie.Need-word-at-byte-requires Inv-loop μ-loop
 word-at-byte-requires c κs = search needs
@@ -33,53 +30,54 @@ word-at-byte-requires c κs = search needs
 first-row-requires : tie.Need-first-row-requires Inv-loop μ-loop
 first-row-requires c κs = search needs
 
-mul-t12 : tie.Need-mul-t12 Inv-loop μ-loop
-mul-t12 c = search needs
+cast-place-at : tie.Need-cast-place-at Inv-loop μ-loop
+cast-place-at c = search needs
 
-add-t13 : tie.Need-add-t13 Inv-loop μ-loop
-add-t13 c = search needs
-
-cast-t14 : tie.Need-cast-t14 Inv-loop μ-loop
-cast-t14 c = search needs
+place-at-requires : tie.Need-place-at-requires Inv-loop μ-loop
+place-at-requires c κs = search needs
 
 returns : tie.Need-returns Inv-loop μ-loop
 returns c =
-    let a = c .before .before .before .before .before .before .before .before .args in
-    let l = c .before .before .before .before .loop in (
+    let a = c .before .before .before .before .before .before .before .before .before .before .args in
+    let l = c .before .before .before .before .before .before .before .loop in
+    let row = c .before .before .first-row .ensures in
+    let load = c .before .before .before .word-at-byte .ensures in
+    let there = c .place-at .ensures in
+    let test = c .before .before .before .before .before .before .place .ensures in (
       omega arith,
-      omega arith,
-      between-join _ _ (8 * l .b) _ (l .inv .2) (λ p g u.
-          block-passed (now (a .text)) (now (a .cells)) (l .b) 0 _ _ (c .before .first-row .ensures .1) (c .before .before .word-at-byte .ensures)
-          (c .before .first-row .ensures .2) p (omega arith) (omega arith)),
-      λ u.
-          block-fits (now (a .text)) (now (a .cells)) (l .b) _ _ (c .if1 .taken) (c .before .before .word-at-byte .ensures) (c .before .first-row .ensures .3 (c .if1 .taken)),
+      omega (arith, c .before .before .before .before .if1 .taken),
+      between-join _ _ (8 * l .b .0) _ (l .inv .2) (λ p g u.
+          block-passed (now (a .text)) (now (a .cells)) (l .b .0) 0 _ _ (row .1) load (row .2) p (omega arith) (omega arith)),
+      λ u. rw there (block-fits (now (a .text)) (now (a .cells)) (l .b .0) _ _ (c .before .if2 .taken) load (row .3 (c .before .if2 .taken))),
     )
 
-add-b : tie.Need-add-b Inv-loop μ-loop
-add-b c = search needs
+add-t12 : tie.Need-add-t12 Inv-loop μ-loop
+add-t12 c = search needs
 
 loop-less : tie.Need-loop-less Inv-loop μ-loop
-loop-less c = search needs
+loop-less c = omega (arith, c .before .before .before .before .before .before .place .ensures)
 
 loop-again : tie.Need-loop-again Inv-loop μ-loop
 loop-again c =
-    let a = c .before .before .before .before .before .before .before .before .args in
-    let l = c .before .before .before .before .loop in (
+    let a = c .before .before .before .before .before .before .before .before .before .before .args in
+    let l = c .before .before .before .before .before .before .before .loop in
+    let row = c .before .before .first-row .ensures in
+    let test = c .before .before .before .before .before .before .place .ensures in (
       omega arith,
       omega arith,
-      between-join _ _ (8 * l .b) _ (l .inv .2) (λ p g u.
-          block-passed (now (a .text)) (now (a .cells)) (l .b) 0 _ _ (c .before .first-row .ensures .1) (c .before .before .word-at-byte .ensures)
-          (c .before .first-row .ensures .2) p (omega arith) (omega arith)),
+      between-join _ _ (8 * l .b .0) _ (l .inv .2) (λ p g u.
+          block-passed (now (a .text)) (now (a .cells)) (l .b .0) 0 _ _ (row .1) (c .before .before .before .word-at-byte .ensures) (row .2) p (omega arith) (omega arith)),
     )
 
-mul-t15 : tie.Need-mul-t15 Inv-loop μ-loop
-mul-t15 c = search needs
-
-cast-t16 : tie.Need-cast-t16 Inv-loop μ-loop
-cast-t16 c = search needs
+place-requires-2 : tie.Need-place-requires-2 Inv-loop μ-loop
+place-requires-2 c κs = search needs
 
 returns-2 : tie.Need-returns-2 Inv-loop μ-loop
-returns-2 c = (omega arith, omega arith, c .before .loop .inv .2, λ u. absurd (omega arith))
+returns-2 c =
+    let l = c .before .before .before .before .loop in
+    let test = c .before .before .before .place .ensures in
+    let there = c .place2 .ensures in
+    (omega arith, omega arith, λ p g u. l .inv .2 p g (omega arith), λ u. absurd (omega arith))
 
 pub in-blocks-spec : {M : Type 1} → statement M
 in-blocks-spec =
@@ -87,18 +85,15 @@ in-blocks-spec =
     (tie.spec
     Inv-loop
     μ-loop
-    cast-end
     loop-holds
-    mul-loop
+    place-requires
     word-at-byte-requires
     first-row-requires
-    mul-t12
-    add-t13
-    cast-t14
+    cast-place-at
+    place-at-requires
     returns
-    add-b
+    add-t12
     loop-less
     loop-again
-    mul-t15
-    cast-t16
+    place-requires-2
     returns-2)

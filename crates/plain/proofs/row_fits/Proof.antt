@@ -14,10 +14,10 @@ use Rattle.plain.proofs.row_fits.Statement.{statement}
 use Rattle.plain.proofs.row_fits.Tie as tie
 
 abbrev Inv-loop : tie.InvT-loop
-Inv-loop text m cells from chunks at k₀ k = (from ≤ k) × Between (λ y. cellFits text cells at y ≡ true) from k
+Inv-loop text m cells from chunks at row k₀ k = (from ≤ k) × Between (λ y. cellFits text cells at y ≡ true) from k
 
 abbrev μ-loop : tie.MeasureT-loop
-μ-loop text m cells from chunks at k₀ k = chunks - k
+μ-loop text m cells from chunks at row k₀ k = chunks - k
 
 add-chunks : tie.Need-add-chunks Inv-loop μ-loop
 add-chunks c = search needs
@@ -25,8 +25,11 @@ add-chunks c = search needs
 cast-chunks : tie.Need-cast-chunks Inv-loop μ-loop
 cast-chunks c = search needs
 
-cast-at : tie.Need-cast-at Inv-loop μ-loop
-cast-at c = search needs
+offset-requires : tie.Need-offset-requires Inv-loop μ-loop
+offset-requires c κs = search needs
+
+cast-row : tie.Need-cast-row Inv-loop μ-loop
+cast-row c = search needs
 
 loop-holds : tie.Need-loop-holds Inv-loop μ-loop
 loop-holds c = (omega arith, between-none _ _)
@@ -37,11 +40,17 @@ mul-c c = search needs
 add-c : tie.Need-add-c Inv-loop μ-loop
 add-c c = search needs
 
-mul-t14 : tie.Need-mul-t14 Inv-loop μ-loop
-mul-t14 c = search needs
+cast-t16 : tie.Need-cast-t16 Inv-loop μ-loop
+cast-t16 c = search needs
 
-add-t16 : tie.Need-add-t16 Inv-loop μ-loop
-add-t16 c = search needs
+mul-t17 : tie.Need-mul-t17 Inv-loop μ-loop
+mul-t17 c = search needs
+
+add-t18 : tie.Need-add-t18 Inv-loop μ-loop
+add-t18 c = search needs
+
+byte-requires : tie.Need-byte-requires Inv-loop μ-loop
+byte-requires c κs = search needs
 
 word-at-byte-requires : tie.Need-word-at-byte-requires Inv-loop μ-loop
 word-at-byte-requires c κs = search needs
@@ -63,11 +72,12 @@ shared-slice-read-if1-2 c = search needs
 
 returns : tie.Need-returns Inv-loop μ-loop
 returns c =
-    let a = c .before .before .before .before .before .before .before .before .before .args in
-    let l = c .before .before .before .before .before .loop in
+    let a = c .before .before .before .before .before .before .before .before .before .before .args in
+    let l = c .before .before .before .before .before .before .loop in
     refused (λ f. c .if1 .taken
     (eqb-true _ _
-    (cell-read (now (a .text)) (now (a .cells)) (a .s .0) (l .k) _ (c .before .before .before .word-at-byte .ensures)
+    (cell-read (now (a .text)) (now (a .cells)) (a .s .0) (l .k) _ _ _ (c .before .before .before .before .byte .ensures)
+    (c .before .before .before .before .before .before .before .offset .ensures) (c .before .before .before .word-at-byte .ensures)
     ∙ f (l .k) (l .inv .0) (omega arith))))
 
 add-k : tie.Need-add-k Inv-loop μ-loop
@@ -78,11 +88,12 @@ loop-less c = search needs
 
 loop-again : tie.Need-loop-again Inv-loop μ-loop
 loop-again c =
-    let a = c .before .before .before .before .before .before .before .before .before .args in
-    let l = c .before .before .before .before .before .loop in (
+    let a = c .before .before .before .before .before .before .before .before .before .before .args in
+    let l = c .before .before .before .before .before .before .loop in (
       omega arith,
       between-more _ _ _ (l .inv .1)
-          (sym (cell-read (now (a .text)) (now (a .cells)) (a .s .0) (l .k) _ (c .before .before .before .word-at-byte .ensures))
+          (sym (cell-read (now (a .text)) (now (a .cells)) (a .s .0) (l .k) _ _ _ (c .before .before .before .before .byte .ensures)
+          (c .before .before .before .before .before .before .before .offset .ensures) (c .before .before .before .word-at-byte .ensures))
           ∙ eq-eqb _ _ (c .if1 .left)),
     )
 
@@ -99,12 +110,15 @@ row-fits-spec =
     μ-loop
     add-chunks
     cast-chunks
-    cast-at
+    offset-requires
+    cast-row
     loop-holds
     mul-c
     add-c
-    mul-t14
-    add-t16
+    cast-t16
+    mul-t17
+    add-t18
+    byte-requires
     word-at-byte-requires
     add-if1
     mul-if1
