@@ -1,7 +1,7 @@
 -- Laws of the chains of the skip method: what a head and a link say of the pattern's indices, and what a walk along a chain
 -- says of the places that contain the byte.
 -- Assumes nothing.
-use Prim.Native.Nat.{ℕ, zero, suc, _+_, _-_, _*_, _/_, _%_, _≤_, _<_}
+use Prim.Native.Nat.{ℕ, zero, suc, _+_, _-_, _*_, _/_, _%_, _^_, _≤_, _<_}
 use mathlib.Core.Path.{_≡_, refl, sym, ap, ap₂, _∙_}
 use mathlib.Core.Logic.{inl, inr}
 use mathlib.Core.Bool.{Bool, true, false, cond}
@@ -44,9 +44,23 @@ pub chained-span : (s m : ℕ) → s % 8 ≡ 1 → 15 ≤ m → 8 * ((s + m) / 8
 unfolding chained
 chained-span s m e long = omega arith
 
--- the byte of the next mark, 8 b + 1
-pub next-byte : (b m : ℕ) → 15 ≤ m → b + ((m + 1) / 8 - 1) ≡ (8 * b + 1 + m) / 8 - 1
-next-byte b m long = omega arith
+-- the byte of the next mark, 8 b + 1: it lies as many bits on as indices are chained
+pub next-byte : (b m j k at : ℕ) → 15 ≤ m → j ≡ chained m → k ≡ j / 8 → at ≡ 8 * b + 1 → b + k ≡ (at + m) / 8 - 1
+unfolding chained
+next-byte b m j k at long e f g = omega arith
+
+pub next-fits : (b m j k : ℕ) → b + m < 2 ^ 32 → j ≡ chained m → k ≡ j / 8 → b + k < 2 ^ 64
+unfolding chained
+next-fits b m j k h e f = omega arith
+
+-- the last byte of a mark 8 a + 1: it lies so far from the text's start, and inside the text
+module _ (s n m b : ℕ) (long : 15 ≤ m) (last : b ≡ (s + m) / 8 - 1) where
+  pub byte-from : s % 8 ≡ 1 → chained m ≤ 8 * b
+  unfolding chained
+  byte-from e = omega arith
+
+  pub byte-inside : s < 1 + n - m → 8 * b + 8 ≤ n
+  byte-inside h = omega arith
 
 -- the byte of the mark that lies so many places before it
 pub mark-byte : (b m : ℕ) → chained m ≤ 8 * b → 15 ≤ m → (8 * b + 1 - chained m + m) / 8 - 1 ≡ b
@@ -197,8 +211,8 @@ module _ (t : Packed) (w : Pattern) (b : ℕ) where
       -- it goes on to the link i: the place of j may be an occurrence, and none between
       pub walk-on : occurrences t w p (8 * b + 1 - i) ≡ occurrences t w p (8 * b + 1 - j) ++ keep (occurs t w (8 * b + 1 - j)) (8 * b + 1 - j) []
       walk-on =
-          let behind : 8 * b + 1 - (j - 1) ≡ 8 * b + 1 - j + 1 = omega arith in
-          let gap : occurrences t w (8 * b + 1 - j + 1) (8 * b + 1 - i) ≡ [] = rw behind at (chain-gap (j - 1) i next (omega arith) (omega arith)) in
+          let after : 8 * b + 1 - (j - 1) ≡ 8 * b + 1 - j + 1 = omega arith in
+          let gap : occurrences t w (8 * b + 1 - j + 1) (8 * b + 1 - i) ≡ [] = rw after at (chain-gap (j - 1) i next (omega arith) (omega arith)) in
           occurrences-append t w p (8 * b + 1 - j) (8 * b + 1 - i) (omega arith) (omega arith)
           ∙ ap (λ (r : List ℕ). occurrences t w p (8 * b + 1 - j) ++ r)
           (occurrences-append t w (8 * b + 1 - j) (8 * b + 1 - j + 1) (8 * b + 1 - i) (omega arith) (omega arith)

@@ -107,7 +107,7 @@ filled-more w before cells k v f ev h room =
 pub filled-here : {w : Pattern} {before : List ℕ} {k : ℕ} {cells : List ℕ} → Filled w before k cells → Filled w cells k cells
 filled-here f = record { heads = f .heads; links = f .links; size = refl; behind = refl }
 
--- more indices entered behind some
+-- more indices entered after some
 pub filled-then : {w : Pattern} {before : List ℕ} {k : ℕ} {cells : List ℕ} {k' : ℕ} {cells' : List ℕ} → Filled w before k cells → Filled w cells k' cells'
     → Filled w before k' cells'
 filled-then f g =

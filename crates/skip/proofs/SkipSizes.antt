@@ -14,18 +14,15 @@ use Rattle.matcher.specs.Progress.{Ready}
 
 -- b is the last whole byte inside the place p, of `len` bytes of text
 pub record Sizes (p n m len b : ℕ) : Type 0 where
-  pub first : 8 * b < 2 ^ 32
+  pub small : b < 2 ^ 29
   pub top : 8 * b + 1 < 2 ^ 32
-  pub top-wide : 8 * b + 1 < 2 ^ 64
-  pub wide : b < 2 ^ 64
   pub there : b < len
   pub within : p ≤ 8 * b + 1
-  pub all-eight : 8 * b + 8 < 2 ^ 32
-  pub goes-on : b + ((m + 1) / 8 - 1) < 2 ^ 32
+  pub goes-on : b + m < 2 ^ 32
 
 -- the byte b lies inside a text of n bits and `len` bytes
 pub record ByteSizes (n len b : ℕ) : Type 0 where
-  pub first : 8 * b < 2 ^ 64
+  pub small : b < 2 ^ 29
   pub top : 8 * b + 1 < 2 ^ 32
   pub top-wide : 8 * b + 1 < 2 ^ 64
   pub there : b < len
@@ -42,17 +39,15 @@ module _ (t : Packed) (w : Pattern) (cells : List ℕ) (ready : Ready Skip t w c
   byte-sizes b h =
       let few = ready .few-bits in
       let there = ready .bytes-there in
-      record { first = omega arith; top = omega arith; top-wide = omega arith; there = omega arith; less = λ j. omega arith }
+      record { small = omega arith; top = omega arith; top-wide = omega arith; there = omega arith; less = λ j. omega arith }
 
   module _ (s : ℕ) where
-    pub span-small : s ≤ places t w → s + w .count < 2 ^ 32
-    span-small h =
+    -- what `last_byte` asks for
+    pub byte-asked : s ≤ places t w → (s ≤ 2 ^ 30) × (15 ≤ w .count) × (w .count ≤ 2048)
+    byte-asked h =
         let few = ready .few-bits in
-        let short = ready .pattern .few-bits in
-        omega arith
-
-    pub some-byte : 1 ≤ (s + w .count) / 8
-    some-byte = let long = long-enough in omega arith
+        let long = long-enough in
+        (omega arith, long, ready .pattern .few-bits)
 
     pub sizes : (b : ℕ) → b ≡ (s + w .count) / 8 - 1 → s < places t w → Sizes s (t .count) (w .count) (length (t .bytes)) b
     sizes b e h =
@@ -61,4 +56,4 @@ module _ (t : Packed) (w : Pattern) (cells : List ℕ) (ready : Ready Skip t w c
         let long = long-enough in
         let short = ready .pattern .few-bits in
         let inside = ready .inside in
-        record { first = omega arith; top = omega arith; top-wide = omega arith; wide = omega arith; there = omega arith; within = omega arith; all-eight = omega arith; goes-on = omega arith }
+        record { small = omega arith; top = omega arith; there = omega arith; within = omega arith; goes-on = omega arith }

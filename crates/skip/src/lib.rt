@@ -1,6 +1,6 @@
 // The skip method: one whole byte of the text decides many places. Cell B, below 256, is the head of the chain of the
-// pattern's indices that show the byte B, highest first; cell 256 + j is the link behind index j. Head and link are one
-// more than an index, and 0 ends the chain. Behind a step the mark is 8 b + 1, b being the byte: `step` makes one step from
+// pattern's indices that show the byte B, highest first; cell 256 + j is the link after index j. Head and link are one
+// more than an index, and 0 ends the chain. After a step the mark is 8 b + 1, b being the byte: `step` makes one step from
 // any mark, through links that keep to its places, and `advance` many from such marks, whose chains are those of the tables.
 use bits::ByteNo;
 use bits::Place;
@@ -12,12 +12,28 @@ use matcher::compare::Head;
 use rules::Method;
 ghost use mathlib.Core.Path.{_≡_};
 ghost use mathlib.Core.List.{_++_};
-ghost use Prim.Native.Nat.{_+_, _-_, _*_, _≤_, _<_};
+ghost use Prim.Native.Nat.{_+_, _-_, _*_, _/_, _^_, _≤_, _<_};
 ghost use lib.ListN.{length, drop, replicate};
 ghost use Rattle.rules.specs.Occurrence.{places};
 ghost use Rattle.skip.specs.SkipChains.{Filled};
 ghost use Rattle.matcher.specs.Tables.{cellsFor, chained, lastShown, SkipTables, Prepared};
 ghost use Rattle.matcher.specs.Progress.{textOf, patternOf, HeadOf, GoodPattern, Ready, Stepped, Advanced};
+
+// The last whole byte inside place s, document 01's b.
+fn last_byte(s: Place, m: u32) -> ByteNo
+    requires { ⌜ (s .0 ≤ 2 ^ 30) × (15 ≤ m) × (m ≤ 2048) ⌝ }
+    ensures { λ r. ⌜ r .0 ≡ (s .0 + m) / 8 - 1 ⌝ }
+{
+    ByteNo(Place(s.0 + m).byte().0 - 1)
+}
+
+// How many indices are chained: the places of a step from a mark 8 a + 1 on, so those of the mark 1.
+fn indices(m: u32) -> u32
+    requires { ⌜ (15 ≤ m) × (m ≤ 2048) ⌝ }
+    ensures { λ r. ⌜ r ≡ chained m ⌝ }
+{
+    last_byte(Place(1), m).place().0
+}
 
 // Every chain empty.
 fn clear(cells: &mut [u64])
@@ -32,7 +48,7 @@ fn clear(cells: &mut [u64])
 }
 
 // Enters k indices from j on, rising, each at the head of its chain: the bytes that the pattern shows there begin one bit
-// behind the other in one load.
+// after the other in one load.
 fn enter(word: &[u8], m: u32, j: u32, k: u32, cells: &mut [u64])
     requires { ⌜ (j + k ≤ m) × (m ≤ 2048) × (k ≤ 57) × (256 + m ≤ length (now cells)) ⌝ }
     requires { ⌜ Filled (patternOf (now word) m) (now cells) j (now cells) ⌝ }
@@ -57,7 +73,7 @@ pub fn prepare(word: &[u8], m: u32, cells: &mut [u64])
     ensures { λ _. ⌜ Prepared Method.Skip (patternOf (now (word .entry)) m) (now (cells .entry)) (now (cells .exit)) ⌝ }
 {
     clear(cells);
-    let count = (m + 1) / 8 * 8 - 8;
+    let count = indices(m);
     let mut j = 0u32;
     while j + 56 < count {
         enter(word, m, j, 56, cells);
@@ -74,7 +90,7 @@ fn first_link(word: &[u8], m: u32, cells: &[u64], v: u8, k: u32) -> u64
     ensures { λ r. ⌜ (r ≤ k) × (lastShown (patternOf (now (word .entry)) m) v k ≤ r) × (r ≤ chained m → lastShown (patternOf (now (word .entry)) m) v r ≡ r) ⌝ }
 {
     let high = k as u64;
-    if (m + 1) / 8 * 8 - 8 < k {
+    if indices(m) < k {
         return high;
     }
     let mut j = cells[v as usize];
@@ -91,7 +107,7 @@ fn next_link(word: &[u8], m: u32, cells: &[u64], v: u8, j: u64) -> u64
     requires { ⌜ (j ≤ chained m → lastShown (patternOf (now word) m) v j ≡ j) ⌝ }
     ensures { λ r. ⌜ (r < j) × (lastShown (patternOf (now (word .entry)) m) v (j - 1) ≤ r) × (r ≤ chained m → lastShown (patternOf (now (word .entry)) m) v r ≡ r) ⌝ }
 {
-    let count = ((m + 1) / 8 * 8 - 8) as u64;
+    let count = indices(m) as u64;
     if j <= count {
         return cells[(255 + j) as usize];
     }
@@ -119,11 +135,12 @@ pub fn step(
     ensures { λ r. ⌜ Stepped Method.Skip (textOf (now (text .entry)) n) (patternOf (now (word .entry)) m) (s .0) (now (list .entry)) had (r .at .0) (r .hits) (r .full) (now (list .exit)) ⌝ }
 {
     let at = s.0;
-    let b = (at + m) / 8 - 1;
-    let top = 8 * b + 1;
+    let b = last_byte(s, m);
+    let top = b.place_at(1).0;
     let stop = matcher::cut(top, n - m + 1);
     let low = top - stop;
-    let v = text[b as usize];
+    let byte = b.0;
+    let v = text[byte];
     let mut j = first_link(word, m, cells, v, top - at);
     let mut hits = had;
     while (low as u64) < j {
@@ -168,7 +185,7 @@ fn chain(
     ensures { λ r. ⌜ Stepped Method.Skip (textOf (now (text .entry)) n) (patternOf (now (word .entry)) m) (8 * b .0 + 1 - chained m) (now (list .entry)) had (r .at .0) (r .hits) (r .full) (now (list .exit)) ⌝ }
 {
     let byte = b.0;
-    let top = 8 * byte + 1;
+    let top = b.place_at(1).0 as usize;
     let end = n - m + 1;
     let mut next = cells[text[byte] as usize] as usize;
     let mut written = had;
@@ -197,8 +214,9 @@ fn chain(
     }
 }
 
-// Many steps, each from a mark 8 a + 1: its byte is b, and that of the next mark, 8 b + 1, is b + (m + 1) / 8 - 1. The mark
-// may pass the number of places, and is cut at the end. From any other mark it makes no step: only a call's first mark is one.
+// Many steps, each from a mark 8 a + 1: its byte is b, and that of the next mark, 8 b + 1, lies as many bits on as indices
+// are chained. The mark may pass the number of places, and is cut at the end. From any other mark it makes no step: only a
+// call's first mark is one.
 pub fn advance(
     text: &[u8],
     n: u32,
@@ -217,9 +235,9 @@ pub fn advance(
     ensures { λ r. ⌜ Advanced Method.Skip (textOf (now (text .entry)) n) (patternOf (now (word .entry)) m) (s .0) budget (now (list .entry)) had (r .at .0) (r .steps) (r .hits) (r .full) (now (list .exit)) ⌝ }
 {
     let end = n - m + 1;
-    let stride = (m + 1) / 8 - 1;
+    let stride = Place(indices(m)).byte().0;
     let mut at = s.0;
-    if at % 8 != 1 {
+    if s.offset() != 1 {
         return Advance {
             at: s,
             steps: 0,
@@ -227,11 +245,11 @@ pub fn advance(
             full: false,
         };
     }
-    let mut b = (at + m) / 8 - 1;
+    let mut b = last_byte(s, m);
     let mut steps = 0u32;
     let mut hits = had;
     while at < end && steps < budget {
-        let found = chain(text, n, word, m, h, cells, ByteNo(b as usize), list, hits);
+        let found = chain(text, n, word, m, h, cells, b, list, hits);
         hits = found.hits;
         steps += 1;
         if found.full {
@@ -243,8 +261,8 @@ pub fn advance(
                 full: true,
             };
         }
-        at = 8 * b + 1;
-        b += stride;
+        at = b.place_at(1).0;
+        b = ByteNo(b.0 + stride);
     }
     Advance {
         at: Place(matcher::cut(at, end)),

@@ -8,6 +8,7 @@ use mathlib.Core.Logic.{⊎-elim}
 use mathlib.Core.Bool.{Bool}
 use native.Mathlib.Omega.{arith}
 use denote.Ref.{now}
+use lib.Dec.{lit<}
 use lib.ListN.{length, getD}
 use Rattle.bits.specs.Packed.{bitsAt}
 use Rattle.rules.specs.Occurrence.{occurs, occurrences}
@@ -46,20 +47,20 @@ fitting s = byte-sizes _ _ _ (s .pre .0) (s .args .b .0) (s .pre .1 .1 .1)
 
 -- the link that is read first heads the chain of byte b
 head : (c : tie.After-shared-slice-known5 Inv-loop μ-loop)
-    → let a = c .before .before .before .before .before .before .args in
+    → let a = c .before .before .before .before .before .before .before .before .args in
     getD (now (a .cells)) (getD (now (a .text)) (a .b .0) 0) 0 ≡ lastShown (patternOf (now (a .word)) (a .m)) (byteOf (textOf (now (a .text)) (a .n)) (patternOf (now (a .word)) (a .m)) (a .b .0)) (chained (a .m))
 head c =
-    let s = c .before .before .before .before .before .before in
+    let s = c .before .before .before .before .before .before .before .before in
     let a = s .args in
     let byte = c .before .shared-slice-known4 .given (a .b .0) .fits in
     s .pre .0 .tables .head-is _ byte ∙ ap (λ (v : ℕ). lastShown (patternOf (now (a .word)) (a .m)) v (chained (a .m))) (byte-is (now (a .text)) (a .b .0) byte)
 
 -- the link's place is not before the mark
 from-mark : (c : tie.At-loop Inv-loop μ-loop)
-    → let a = c .before .before .before .before .before .before .before .args in
+    → let a = c .before .before .before .before .before .before .before .before .before .args in
     (c .loop .next ≤ chained (a .m)) × (c .loop .next + (8 * a .b .0 + 1 - chained (a .m)) ≤ 8 * a .b .0 + 1)
 from-mark c =
-    let s = c .before .before .before .before .before .before .before in
+    let s = c .before .before .before .before .before .before .before .before .before in
     let a = s .args in
     let near = headed-within (patternOf (now (a .word)) (a .m)) (now (a .cells)) (s .pre .0 .tables) (bitsAt (now (a .text)) (8 * a .b .0) 8) 0 (c .loop .next) (c .loop .inv .0) in
     (near, above (c .loop .next) (chained (a .m)) (8 * a .b .0) near (s .pre .1 .1 .0))
@@ -69,53 +70,55 @@ from-mark c =
 
 -- and it is below E
 inside : (c : tie.Else1 Inv-loop μ-loop)
-    → let a = c .before .before .before .before .before .before .before .before .before .args in
+    → let a = c .before .before .before .before .before .before .before .before .before .before .before .args in
     8 * a .b .0 + 1 - c .before .before .loop .next < 1 + a .n - a .m
-inside c = below-end _ _ _ (c .before .before .before .before .before .before .before .before .before .pre .0 .inside) (c .if1 .left)
+inside c = below-end _ _ _ (c .before .before .before .before .before .before .before .before .before .before .before .pre .0 .inside) (rw (c .before .before .before .before .before .before .place-at .ensures) at (c .if1 .left))
 
 -- the comparison's answer
 stands : (c : tie.After-same Inv-loop μ-loop) (x : Bool) → c .same .result ≡ x
-    → let a = c .before .before .before .before .before .before .before .before .before .before .args in
+    → let a = c .before .before .before .before .before .before .before .before .before .before .before .before .args in
     occurs (textOf (now (a .text)) (a .n)) (patternOf (now (a .word)) (a .m)) (8 * a .b .0 + 1 - c .before .before .before .loop .next) ≡ x
-stands c x e = compared-place _ _ _ _ _ x (c .same .ensures) e (inside (c .before))
+stands c x e =
+    let top = c .before .before .before .before .before .before .before .place-at .ensures in
+    compared-place _ _ _ _ _ x (rw top at (c .same .ensures)) e (inside (c .before))
 
 -- the link's cell is one of the table's
-linked : (c : tie.At-loop Inv-loop μ-loop) → 255 + c .loop .next < length (now (c .before .before .before .before .before .before .before .args .cells))
+linked : (c : tie.At-loop Inv-loop μ-loop) → 255 + c .loop .next < length (now (c .before .before .before .before .before .before .before .before .before .args .cells))
 linked c =
-    let s = c .before .before .before .before .before .before .before in
+    let s = c .before .before .before .before .before .before .before .before .before in
     let long = long-enough _ _ _ (s .pre .0) in
     cell (c .loop .next) (chained (s .args .m)) (s .args .m) (length (now (s .args .cells))) (from-mark c .0) (chained-fits (s .args .m) long) (s .pre .0 .room)
   where
     cell : (j k m l : ℕ) → j ≤ k → k + 7 ≤ m → 256 + m ≤ l → 255 + j < l
     cell j k m l h g r = omega arith
 
-mul-top : tie.Need-mul-top Inv-loop μ-loop
-mul-top c = record { fits = fitting (c .before .before .before .before) .first }
+place-at-requires : tie.Need-place-at-requires Inv-loop μ-loop
+place-at-requires c κs = (fitting (c .before .before .before .before) .small, lit< tt)
 
-add-top : tie.Need-add-top Inv-loop μ-loop
-add-top c = record { fits = fitting (c .before .before .before .before) .top-wide }
+cast-top : tie.Need-cast-top Inv-loop μ-loop
+cast-top c = record { fits = rw (c .before .place-at .ensures) (fitting (c .before .before .before .before .before .before) .top-wide) }
 
 sub-end : tie.Need-sub-end Inv-loop μ-loop
-sub-end c = c .before .before .before .before .pre .0 .inside
+sub-end c = c .before .before .before .before .before .before .pre .0 .inside
 
 add-end : tie.Need-add-end Inv-loop μ-loop
-add-end c = record { fits = end-fits _ _ _ (c .before .before .before .before .pre .0) }
+add-end c = record { fits = end-fits _ _ _ (c .before .before .before .before .before .before .pre .0) }
 
 shared-slice-read-next : tie.Need-shared-slice-read-next Inv-loop μ-loop
-shared-slice-read-next c = fitting (c .before .before .before .before .before) .there
+shared-slice-read-next c = fitting (c .before .before .before .before .before .before .before) .there
 
 cast-next : tie.Need-cast-next Inv-loop μ-loop
-cast-next c = omega (arith, c .shared-slice-known4 .given (c .before .before .before .before .before .args .b .0))
+cast-next c = omega (arith, c .shared-slice-known4 .given (c .before .before .before .before .before .before .before .args .b .0))
 
 mul-next : tie.Need-mul-next Inv-loop μ-loop
-mul-next c = omega (arith, c .shared-slice-known4 .given (c .before .before .before .before .before .args .b .0))
+mul-next c = omega (arith, c .shared-slice-known4 .given (c .before .before .before .before .before .before .before .args .b .0))
 
 shared-slice-read-next-2 : tie.Need-shared-slice-read-next-2 Inv-loop μ-loop
-shared-slice-read-next-2 c = omega (arith, c .before .shared-slice-known4 .given (c .before .before .before .before .before .before .args .b .0))
+shared-slice-read-next-2 c = omega (arith, c .before .shared-slice-known4 .given (c .before .before .before .before .before .before .before .before .args .b .0))
 
 loop-holds : tie.Need-loop-holds Inv-loop μ-loop
 loop-holds c =
-    let s = c .before .before .before .before .before .before in
+    let s = c .before .before .before .before .before .before .before .before in
     let a = s .args in
     let t = textOf (now (a .text)) (a .n) in
     let w = patternOf (now (a .word)) (a .m) in
@@ -129,16 +132,17 @@ loop-holds c =
     )
 
 sub-p : tie.Need-sub-p Inv-loop μ-loop
-sub-p c = part-le _ _ _ (from-mark (c .before) .1)
+sub-p c = rw (c .before .before .before .before .before .place-at .ensures) (part-le _ _ _ (from-mark (c .before) .1))
 
 cast-p : tie.Need-cast-p Inv-loop μ-loop
-cast-p c = record { fits = fitting (c .before .before .before .before .before .before .before .before) .less _ }
+cast-p c = record { fits = rw (c .before .before .before .before .before .place-at .ensures) (fitting (c .before .before .before .before .before .before .before .before .before .before) .less _) }
 
 same-requires : tie.Need-same-requires Inv-loop μ-loop
 same-requires c κs =
-    let s = c .before .before .before .before .before .before .before .before .before in
+    let s = c .before .before .before .before .before .before .before .before .before .before .before in
     let g = s .pre .0 .pattern in
-    ((g .some-bits, g .few-bits, place-fits _ (s .args .n) (s .args .m) (2 ^ 30) (inside c) (s .pre .0 .few-bits)), s .pre .1 .0)
+    let top = c .before .before .before .before .before .before .place-at .ensures in
+    ((g .some-bits, g .few-bits, rw top (place-fits _ (s .args .n) (s .args .m) (2 ^ 30) (inside c) (s .pre .0 .few-bits))), s .pre .1 .0)
 
 same-length : tie.Need-same-length Inv-loop μ-loop
 same-length c = writing-length _ _ _ _ _ (c .before .before .before .before .before .loop .inv .1)
@@ -146,7 +150,7 @@ same-length c = writing-length _ _ _ _ _ (c .before .before .before .before .bef
 returns : tie.Need-returns Inv-loop μ-loop
 returns c =
     let l = c .before .before .before .before .before .loop in
-    let s = c .before .before .before .before .before .before .before .before .before .before .before .before in
+    let s = c .before .before .before .before .before .before .before .before .before .before .before .before .before .before in
     let a = s .args in
     let t = textOf (now (a .text)) (a .n) in
     let w = patternOf (now (a .word)) (a .m) in
@@ -156,8 +160,9 @@ returns c =
     let last : lastByte w p ≡ b = mark-byte b (a .m) (s .pre .1 .1 .0) long in
     let low = from-mark (c .before .before .before .before .before) .1 in
     let found = stands (c .before .before) _ (c .before .if2 .taken) in
-    skip-full t w p (now (a .list)) (a .had) (l .list) (l .written) (8 * b + 1 - l .next) (l .inv .1) long (s .pre .1 .1 .2)
-    (rest-le _ _ _ low) (rw last (below-top (8 * b + 1) (l .next) (some (c .before .before .before .before .loop-test .taken)) (part-le _ _ _ low))) found (c .if3 .taken)
+    rw (c .before .before .before .before .before .before .before .before .before .place-at .ensures)
+    (skip-full t w p (now (a .list)) (a .had) (l .list) (l .written) (8 * b + 1 - l .next) (l .inv .1) long (s .pre .1 .1 .2)
+    (rest-le _ _ _ low) (rw last (below-top (8 * b + 1) (l .next) (some (c .before .before .before .before .loop-test .taken)) (part-le _ _ _ low))) found (c .if3 .taken))
 
 mul-list : tie.Need-mul-list Inv-loop μ-loop
 mul-list c = omega arith
@@ -180,14 +185,14 @@ shared-slice-read-next-3 c = linked (c .before .before .before .before .before)
 loop-less : tie.Need-loop-less Inv-loop μ-loop
 loop-less c =
     let l = c .before .before .before .before .before .loop in
-    let s = c .before .before .before .before .before .before .before .before .before .before .before .before in
+    let s = c .before .before .before .before .before .before .before .before .before .before .before .before .before .before in
     let a = s .args in
     headed-less (patternOf (now (a .word)) (a .m)) (now (a .cells)) (s .pre .0 .tables) (bitsAt (now (a .text)) (8 * a .b .0) 8) 0 (l .next) (l .inv .0) (some (c .before .before .before .before .loop-test .taken))
 
 loop-again : tie.Need-loop-again Inv-loop μ-loop
 loop-again c =
     let l = c .before .before .before .before .before .loop in
-    let s = c .before .before .before .before .before .before .before .before .before .before .before .before in
+    let s = c .before .before .before .before .before .before .before .before .before .before .before .before .before .before in
     let a = s .args in
     let t = textOf (now (a .text)) (a .n) in
     let w = patternOf (now (a .word)) (a .m) in
@@ -203,7 +208,7 @@ loop-again c =
     let link : lastShown w B (l .next - 1) ≤ getD cells (255 + l .next) 0 = omega (arith, headed-link w cells tables B 0 (l .next) (l .inv .0) more) in (
       headed-more w cells tables B 0 (l .next) (l .inv .0) more,
       ⊎-elim
-          (λ u. rw (u .2, u .3)
+          (λ u. rw (u .2, u .3, c .before .before .before .before .before .before .before .before .before .place-at .ensures)
           (written-more t w p (now (a .list)) (a .had) (l .list) (l .written) (8 * b + 1 - l .next) (l .inv .1) _
           (walk-found t w b p (l .next) fits low _ less link (stands (c .before .before) _ (u .0 .taken))) (u .1 .left)))
           (λ u. rw (u .1, u .2, walk-by t w b p (l .next) fits low _ less link (stands (c .before .before) _ (u .0 .left))) (l .inv .1))
@@ -211,7 +216,7 @@ loop-again c =
     )
 
 cast-cut : tie.Need-cast-cut Inv-loop μ-loop
-cast-cut c = record { fits = fitting (c .before .before .before .before .before .before .before .before) .top }
+cast-cut c = record { fits = rw (c .before .before .before .before .before .place-at .ensures) (fitting (c .before .before .before .before .before .before .before .before .before .before) .top) }
 
 cut-requires : tie.Need-cut-requires Inv-loop μ-loop
 cut-requires c κs = search needs
@@ -220,17 +225,17 @@ same-length-2 : tie.Need-same-length-2 Inv-loop μ-loop
 same-length-2 c = writing-length _ _ _ _ _ (c .before .before .loop .inv .1)
 
 -- the links that are left are of places from E on
-behind : (c : tie.Left-loop Inv-loop μ-loop)
-    → let a = c .before .before .before .before .before .before .before .before .args in
+outside : (c : tie.Left-loop Inv-loop μ-loop)
+    → let a = c .before .before .before .before .before .before .before .before .before .before .args in
     c .before .loop .next ≤ 8 * a .b .0 + 1 - (1 + a .n - a .m)
-behind c =
-    let s = c .before .before .before .before .before .before .before .before in
-    ⊎-elim (λ u. omega (arith, u .left)) (λ u. from-end _ _ _ _ (s .pre .0 .inside) (part-le _ _ _ (from-mark (c .before) .1)) (u .1 .taken)) (c .loop-test .came)
+outside c =
+    let s = c .before .before .before .before .before .before .before .before .before .before in
+    ⊎-elim (λ u. omega (arith, u .left)) (λ u. from-end _ _ _ _ (s .pre .0 .inside) (part-le _ _ _ (from-mark (c .before) .1)) (rw (c .before .before .before .before .before .place-at .ensures) at (u .1 .taken))) (c .loop-test .came)
 
 returns-2 : tie.Need-returns-2 Inv-loop μ-loop
 returns-2 c =
     let l = c .before .before .loop in
-    let s = c .before .before .before .before .before .before .before .before .before in
+    let s = c .before .before .before .before .before .before .before .before .before .before .before in
     let a = s .args in
     let t = textOf (now (a .text)) (a .n) in
     let w = patternOf (now (a .word)) (a .m) in
@@ -241,8 +246,8 @@ returns-2 c =
     let low = from-mark (c .before .before) .1 in
     let fits : 8 * b + 8 ≤ p + a .m = omega (arith, chained-fits (a .m) long) in
     skip-whole t w p (now (a .list)) (a .had) (l .list) (l .written) (8 * b + 1 - l .next) (l .inv .1) _ long
-    (rw last (walk-end t w b p (l .next) fits low (behind (c .before))))
-    (rw last (c .cut .ensures ∙ ap (min (8 * b + 1)) (sym (places-some t w (s .pre .0 .inside)))))
+    (rw last (walk-end t w b p (l .next) fits low (outside (c .before))))
+    (rw last (rw (c .before .before .before .before .before .before .place-at .ensures) at (c .cut .ensures) ∙ ap (min (8 * b + 1)) (sym (places-some t w (s .pre .0 .inside)))))
 
 pub chain-spec : {M : Type 1} → statement M
 chain-spec =
@@ -250,8 +255,8 @@ chain-spec =
     (tie.spec
     Inv-loop
     μ-loop
-    mul-top
-    add-top
+    place-at-requires
+    cast-top
     sub-end
     add-end
     shared-slice-read-next

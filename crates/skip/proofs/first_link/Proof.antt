@@ -6,7 +6,7 @@ use native.Mathlib.Omega.{arith}
 use denote.Ref.{now}
 use Rattle.matcher.specs.Tables.{chained}
 use Rattle.matcher.specs.Progress.{patternOf}
-use Rattle.skip.proofs.SkipChain.{chained-is, chained-le, shown-is, shown-again, Headed, headed-first, headed-within, headed-less, headed-more, headed-done}
+use Rattle.skip.proofs.SkipChain.{chained-le, shown-is, shown-again, Headed, headed-first, headed-within, headed-less, headed-more, headed-done}
 use borrow.Author.Needs.{needs}
 use Rattle.skip.proofs.first_link.Statement.{statement}
 use Rattle.skip.proofs.first_link.Tie as tie
@@ -17,26 +17,20 @@ Inv-loop word m cells v k high j₀ j = Headed (patternOf word m) v k j
 abbrev μ-loop : tie.MeasureT-loop
 μ-loop word m cells v k high j₀ j = j
 
-near : (c : tie.In-loop Inv-loop μ-loop) → c .before .loop .j ≤ c .before .before .before .before .args .m
+near : (c : tie.In-loop Inv-loop μ-loop) → c .before .loop .j ≤ c .before .before .before .before .before .before .before .args .m
 near c =
-    let s = c .before .before .before .before in
+    let s = c .before .before .before .before .before .before .before in
     let a = s .args in
     let l = c .before .loop in
     omega (arith, chained-le (a .m), headed-within (patternOf (now (a .word)) (a .m)) (now (a .cells)) (s .pre .0) (a .v) (a .k) (l .j) (l .inv))
 
-add-if1 : tie.Need-add-if1 Inv-loop μ-loop
-add-if1 c = omega arith
-
-mul-if1 : tie.Need-mul-if1 Inv-loop μ-loop
-mul-if1 c = omega arith
-
-sub-if1 : tie.Need-sub-if1 Inv-loop μ-loop
-sub-if1 c = search needs
+indices-requires : tie.Need-indices-requires Inv-loop μ-loop
+indices-requires c κs = search needs
 
 returns : tie.Need-returns Inv-loop μ-loop
 returns c =
-    let a = c .before .args in
-    (omega arith, shown-is (patternOf (now (a .word)) (a .m)) (a .v) (a .k) .within, λ g. absurd (omega (arith, chained-is (a .m))))
+    let a = c .before .before .before .before .args in
+    (omega arith, shown-is (patternOf (now (a .word)) (a .m)) (a .v) (a .k) .within, λ g. absurd (omega (arith, c .before .indices .ensures)))
 
 mul-j : tie.Need-mul-j Inv-loop μ-loop
 mul-j c = omega arith
@@ -46,9 +40,9 @@ shared-slice-read-j c = omega arith
 
 loop-holds : tie.Need-loop-holds Inv-loop μ-loop
 loop-holds c =
-    let s = c .before .before in
+    let s = c .before .before .before .before .before in
     let a = s .args in
-    let few : a .k ≤ chained (a .m) = omega (arith, chained-is (a .m)) in
+    let few : a .k ≤ chained (a .m) = omega (arith, c .before .before .indices .ensures) in
     headed-first (patternOf (now (a .word)) (a .m)) (now (a .cells)) (s .pre .0) (a .v) (a .k) (s .fits .v .fits) few
 
 add-j : tie.Need-add-j Inv-loop μ-loop
@@ -62,21 +56,21 @@ shared-slice-read-j-2 c = omega (arith, near (c .before))
 
 loop-less : tie.Need-loop-less Inv-loop μ-loop
 loop-less c =
-    let s = c .before .before .before .before .before in
+    let s = c .before .before .before .before .before .before .before .before in
     let a = s .args in
     let l = c .before .before .loop in
     headed-less (patternOf (now (a .word)) (a .m)) (now (a .cells)) (s .pre .0) (a .v) (a .k) (l .j) (l .inv) (omega arith)
 
 loop-again : tie.Need-loop-again Inv-loop μ-loop
 loop-again c =
-    let s = c .before .before .before .before .before in
+    let s = c .before .before .before .before .before .before .before .before in
     let a = s .args in
     let l = c .before .before .loop in
     headed-more (patternOf (now (a .word)) (a .m)) (now (a .cells)) (s .pre .0) (a .v) (a .k) (l .j) (l .inv) (c .before .loop-test .taken)
 
 returns-2 : tie.Need-returns-2 Inv-loop μ-loop
 returns-2 c =
-    let s = c .before .before .before .before in
+    let s = c .before .before .before .before .before .before .before in
     let a = s .args in
     let w = patternOf (now (a .word)) (a .m) in
     let l = c .before .loop in
@@ -89,9 +83,7 @@ first-link-spec =
     (tie.spec
     Inv-loop
     μ-loop
-    add-if1
-    mul-if1
-    sub-if1
+    indices-requires
     returns
     mul-j
     shared-slice-read-j

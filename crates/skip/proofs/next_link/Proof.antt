@@ -6,19 +6,13 @@ use native.Mathlib.Omega.{arith}
 use denote.Ref.{now}
 use Rattle.matcher.specs.Tables.{chained, lastShown}
 use Rattle.matcher.specs.Progress.{patternOf}
-use Rattle.skip.proofs.SkipChain.{chained-is, shown-is, shown-again, link-at}
+use Rattle.skip.proofs.SkipChain.{shown-is, shown-again, link-at}
 use borrow.Author.Needs.{needs}
 use Rattle.skip.proofs.next_link.Statement.{statement}
 use Rattle.skip.proofs.next_link.Tie as tie
 
-add-count : tie.Need-add-count
-add-count c = omega arith
-
-mul-count : tie.Need-mul-count
-mul-count c = omega arith
-
-sub-count : tie.Need-sub-count
-sub-count c = search needs
+indices-requires : tie.Need-indices-requires
+indices-requires c κs = search needs
 
 cast-count : tie.Need-cast-count
 cast-count c = search needs
@@ -34,10 +28,10 @@ shared-slice-read-result c = search needs
 
 returns : tie.Need-returns
 returns c =
-    let s = c .before .before in
+    let s = c .before .before .before .before .before in
     let a = s .args in
     let w = patternOf (now (a .word)) (a .m) in
-    let low : a .j ≤ chained (a .m) = omega (arith, chained-is (a .m)) in
+    let low : a .j ≤ chained (a .m) = omega (arith, c .before .before .indices .ensures) in
     let e = link-at w (now (a .cells)) (s .pre .0) (a .v) (a .j) (a .j) (sym (s .pre .1 .1 low)) low (omega arith) in
     (omega (arith, e, shown-is w (a .v) (a .j - 1) .within), omega (arith, e), λ g. shown-again w (a .v) (a .j - 1) _ e)
 
@@ -52,10 +46,10 @@ shared-slice-read-result-2 c = search needs
 
 returns-2 : tie.Need-returns-2
 returns-2 c =
-    let s = c .before .before .before in
+    let s = c .before .before .before .before .before .before in
     let a = s .args in
     let w = patternOf (now (a .word)) (a .m) in
-    let last : chained (a .m) ≡ a .j - 1 = omega (arith, chained-is (a .m)) in
+    let last : chained (a .m) ≡ a .j - 1 = omega (arith, c .before .before .before .indices .ensures) in
     let e = s .pre .0 .head-is (a .v) (omega arith) ∙ ap (lastShown w (a .v)) last in
     (omega (arith, e, shown-is w (a .v) (a .j - 1) .within), omega (arith, e), λ g. shown-again w (a .v) (a .j - 1) _ e)
 
@@ -64,18 +58,16 @@ sub-result c = search needs
 
 returns-3 : tie.Need-returns-3
 returns-3 c =
-    let s = c .before .before in
+    let s = c .before .before .before .before .before in
     let a = s .args in
     let w = patternOf (now (a .word)) (a .m) in
-    (omega arith, shown-is w (a .v) (a .j - 1) .within, λ g. absurd (omega (arith, chained-is (a .m))))
+    (omega arith, shown-is w (a .v) (a .j - 1) .within, λ g. absurd (omega (arith, c .before .before .indices .ensures)))
 
 pub next-link-spec : {M : Type 1} → statement M
 next-link-spec =
     tie.close
     (tie.spec
-    add-count
-    mul-count
-    sub-count
+    indices-requires
     cast-count
     add-result
     mul-result

@@ -9,7 +9,7 @@ use lib.ListN.{length}
 use borrow.Author.Tests.{ltb-false}
 use Rattle.matcher.specs.Progress.{patternOf}
 use Rattle.skip.specs.SkipChains.{Filled}
-use Rattle.skip.proofs.SkipChain.{chained-is}
+use Rattle.skip.proofs.SkipChain.{chained-fits}
 use Rattle.skip.proofs.SkipFilling.{same-size, filled-none, filled-here, filled-then, filled-all}
 use Rattle.skip.proofs.prepare.Statement.{statement}
 use Rattle.skip.proofs.prepare.Tie as tie
@@ -21,43 +21,46 @@ abbrev μ-loop : tie.MeasureT-loop
 μ-loop word m cells₀ count j₀ cells j = m - j
 
 -- room for the tables at each turn
-room : (c : tie.At-loop Inv-loop μ-loop) → 256 + c .before .before .before .before .before .before .before .args .m ≤ length (c .loop .cells)
+room : (c : tie.At-loop Inv-loop μ-loop) → 256 + c .before .before .before .before .before .before .before .before .args .m ≤ length (c .loop .cells)
 room c =
-    let k = c .before .before .before in
+    let k = c .before .before .before .before in
     let s = k .before .before .before .before in
     omega (arith, c .loop .inv .1 .size, same-size 256 (now (s .args .cells)) (k .clear .last .0) (k .clear .ensures) (omega arith))
+
+-- each index that is chained fits into the pattern
+few : (c : tie.After-indices Inv-loop μ-loop) → c .indices .result + 7 ≤ c .before .before .before .before .before .before .before .args .m
+few c =
+    let s = c .before .before .before .before .before .before .before in
+    rw (c .indices .ensures) (chained-fits (s .args .m) (ltb-false (s .args .m) 15 (s .pre .0 .fit)))
 
 clear-requires : tie.Need-clear-requires Inv-loop μ-loop
 clear-requires c κs = search needs
 
-add-count : tie.Need-add-count Inv-loop μ-loop
-add-count c = omega (arith, ltb-false)
-
-mul-count : tie.Need-mul-count Inv-loop μ-loop
-mul-count c = omega (arith, ltb-false)
-
-sub-count : tie.Need-sub-count Inv-loop μ-loop
-sub-count c = omega (arith, ltb-false)
+indices-requires : tie.Need-indices-requires Inv-loop μ-loop
+indices-requires c κs =
+    let s = c .before .before .before .before .before .before in
+    (ltb-false (s .args .m) 15 (s .pre .0 .fit), s .pre .0 .few-bits)
 
 loop-holds : tie.Need-loop-holds Inv-loop μ-loop
 loop-holds c =
-    let k = c .before .before in
+    let k = c .before .before .before in
     let a = k .before .before .before .before .args in
     (omega arith, filled-none (patternOf (now (a .word)) (a .m)) (now (a .cells)) (k .clear .last .0) (k .clear .ensures))
 
 add-loop : tie.Need-add-loop Inv-loop μ-loop
-add-loop c = omega (arith, ltb-false)
+add-loop c = omega (arith, few (c .before))
 
 enter-requires : tie.Need-enter-requires Inv-loop μ-loop
 enter-requires c κs =
     let l = c .before .before .loop in
+    let fit = few (c .before .before .before) in
     ((omega arith, omega arith, omega arith, room (c .before .before)), filled-here (l .inv .1))
 
 add-j : tie.Need-add-j Inv-loop μ-loop
-add-j c = omega (arith, ltb-false)
+add-j c = omega (arith, few (c .before .before .before .before .before .before))
 
 loop-less : tie.Need-loop-less Inv-loop μ-loop
-loop-less c = omega (arith, ltb-false)
+loop-less c = omega (arith, few (c .before .before .before .before .before .before))
 
 loop-again : tie.Need-loop-again Inv-loop μ-loop
 loop-again c =
@@ -65,25 +68,26 @@ loop-again c =
     (omega arith, filled-then (l .inv .1) (c .before .before .enter .ensures))
 
 sub-enter : tie.Need-sub-enter Inv-loop μ-loop
-sub-enter c = omega (arith, ltb-false)
+sub-enter c = c .before .loop .inv .0
 
 enter-requires-2 : tie.Need-enter-requires-2 Inv-loop μ-loop
 enter-requires-2 c κs =
     let l = c .before .before .loop in
+    let fit = few (c .before .before .before) in
     ((omega arith, omega arith, omega arith, room (c .before .before)), filled-here (l .inv .1))
 
 same-length : tie.Need-same-length Inv-loop μ-loop
 same-length c =
-    let k = c .before .before .before .before .before .before .before .before in
+    let k = c .before .before .before .before .before .before .before .before .before in
     let a = k .before .before .before .before .args in
     filled-then (c .before .before .before .before .before .loop .inv .1) (c .before .before .enter2 .ensures) .size ∙ same-size 256 (now (a .cells)) (k .clear .last .0) (k .clear .ensures) (omega arith)
 
 returns : tie.Need-returns Inv-loop μ-loop
 returns c =
-    let k = c .before .before .before .before .before .before .before .before in
+    let k = c .before .before .before .before .before .before .before .before .before in
     let a = k .before .before .before .before .args in
     filled-all (patternOf (now (a .word)) (a .m)) (now (a .cells)) _ _ _ (k .clear .ensures) (omega arith)
-    (filled-then (c .before .before .before .before .before .loop .inv .1) (c .before .before .enter2 .ensures)) (omega (arith, chained-is (a .m)))
+    (filled-then (c .before .before .before .before .before .loop .inv .1) (c .before .before .enter2 .ensures)) (omega (arith, c .before .before .before .before .before .before .indices .ensures))
 
 pub prepare-spec : {M : Type 1} → statement M
 prepare-spec =
@@ -92,9 +96,7 @@ prepare-spec =
     Inv-loop
     μ-loop
     clear-requires
-    add-count
-    mul-count
-    sub-count
+    indices-requires
     loop-holds
     add-loop
     enter-requires
