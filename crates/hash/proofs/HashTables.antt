@@ -99,7 +99,7 @@ module _ (cells : List ℕ) (size k : ℕ) (room : size + k ≤ length cells) (i
       ∙ getD-append-add (take size cells) (take k cells) i 0
       ∙ getD-take k cells i 0 h
 
--- the cells behind a copy
+-- the cells after a copy
 pub paste-behind : (cells : List ℕ) (size n : ℕ) → size + size ≤ length cells → size + size ≤ n → drop n (paste cells size cells size) ≡ drop n cells
 paste-behind cells size n room h =
     let parts : n ≡ (size + size) + (n - (size + size)) = omega arith in

@@ -11,7 +11,7 @@ use Rattle.rules.specs.Hash.{meets}
 abbrev pub Moves : Pattern → ℕ → ℕ → ℕ → List ℕ → Type 0
 Moves w size d k cells = (B : ℕ) → B < size → getD cells B 0 ≡ least (meets w B) d k
 
--- the moves d + 1 to m are entered in all 256 cells, and the cells behind them are as they were
+-- the moves d + 1 to m are entered in all 256 cells, and the cells after them are as they were
 pub record Entered (w : Pattern) (before cells : List ℕ) (d : ℕ) : Type 0 where
   pub moves : Moves w 256 (suc d) (w .count - d) cells
   pub size : length cells ≡ length before

@@ -1,4 +1,4 @@
-// The hash method. Cell B of the table holds the move behind the value B: the least d in 1..m that meets the condition.
+// The hash method. Cell B of the table holds the move after the value B: the least d in 1..m that meets the condition.
 pub mod value;
 
 use bits::Place;
@@ -18,7 +18,7 @@ ghost use Rattle.hash.specs.HashMoves.{Entered};
 ghost use Rattle.matcher.specs.Tables.{cellsFor, Prepared};
 ghost use Rattle.matcher.specs.Progress.{textOf, patternOf, HeadOf, GoodPattern, Ready, Stepped, Advanced};
 
-// The first cells once more behind themselves.
+// The first cells once more after themselves.
 fn double(cells: &mut [u64], size: usize)
     requires { ⌜ (size ≤ 128) × (256 ≤ length (now cells)) ⌝ }
     ensures { λ _. ⌜ now (cells .exit) ≡ paste (now (cells .entry)) size (now (cells .entry)) size ⌝ }
@@ -50,7 +50,7 @@ fn prepare_ends(word: &[u8], m: u32, cells: &mut [u64])
     double(cells, size);
 }
 
-// The moves d, d − 1, .. of k values that the pattern shows whole, one behind the other in one load.
+// The moves d, d − 1, .. of k values that the pattern shows whole, one after the other in one load.
 fn enter(word: &[u8], m: u32, d: u32, k: u32, cells: &mut [u64])
     requires { ⌜ (d + 8 ≤ m) × (k ≤ d) × (k ≤ 57) × (256 ≤ length (now cells)) ⌝ }
     requires { ⌜ Entered (patternOf (now word) m) (now cells) (now cells) d ⌝ }
@@ -80,7 +80,7 @@ pub fn prepare(word: &[u8], m: u32, cells: &mut [u64])
     enter(word, m, d, d, cells);
 }
 
-// The next mark behind s, cut at the number of places.
+// The next mark after s, cut at the number of places.
 fn next_mark(text: &[u8], n: u32, word: &[u8], m: u32, cells: &[u64], s: Place) -> u32
     requires { ⌜ Ready Method.Hash (textOf (now text) n) (patternOf (now word) m) (now cells) ⌝ }
     requires { ⌜ s .0 < places (textOf (now text) n) (patternOf (now word) m) ⌝ }

@@ -1,5 +1,5 @@
 -- `hash::advance` meets its contract. The loop's invariant: the steps made wrote what they found, and they reach the
--- place, or the end of the places where it lies behind that.
+-- place, or the end of the places where it lies past that.
 -- Assumes nothing.
 use borrow.Author.Needs.{needs}
 use borrow.Author.Tests.{ltb-true}
