@@ -49,7 +49,7 @@ pub fn check(
     if 1073741824 < n {
         return Checked::Refused(Refusal::TextTooLong);
     }
-    if (text.len() as u64) < (n + 7) / 8 {
+    if (text.len() as u64) < bits::bytes_for(n) {
         return Checked::Refused(Refusal::TextBytesMissing);
     }
     if m == 0 {
@@ -58,7 +58,7 @@ pub fn check(
     if 2048 < m {
         return Checked::Refused(Refusal::PatternLength);
     }
-    if (word.len() as u64) < (m + 7) / 8 {
+    if (word.len() as u64) < bits::bytes_for(m) {
         return Checked::Refused(Refusal::PatternBytesMissing);
     }
     if too_short(method, m) {

@@ -21,7 +21,7 @@ pub fn hash_value(word: &[u8], m: u64, value: u8) -> HashAnswer
     if 2048 < m {
         return HashAnswer::Refused(Refusal::PatternLength);
     }
-    if (word.len() as u64) < (m + 7) / 8 {
+    if (word.len() as u64) < bits::bytes_for(m) {
         return HashAnswer::Refused(Refusal::PatternBytesMissing);
     }
     if m < 8 {

@@ -18,31 +18,32 @@ returns : tie.Need-returns
 unfolding asked
 returns c = row-1 (asked (c .before .before .before .before)) (c .if1 .taken)
 
-add-if2 : tie.Need-add-if2
-add-if2 c = search needs
+bytes-for-requires : tie.Need-bytes-for-requires
+bytes-for-requires c κs = search needs
 
 returns-2 : tie.Need-returns-2
 unfolding asked
-returns-2 c = row-2 (asked (c .before .before .before .before .before)) (c .before .if1 .left) (c .if2 .taken)
+returns-2 c =
+    row-2 (asked (c .before .before .before .before .before .before)) (c .before .before .if1 .left) (rw (c .before .bytes-for .ensures) at (c .if2 .taken))
 
 returns-3 : tie.Need-returns-3
 unfolding asked
-returns-3 c = row-3-none (asked (c .before .before .before .before .before .before)) (c .before .before .if1 .left) (c .before .if2 .left) (c .if3 .taken)
+returns-3 c = row-3-none (asked (c .before .before .before .before .before .before .before)) (c .before .before .before .if1 .left) (rw (c .before .before .bytes-for .ensures) at (c .before .if2 .left)) (c .if3 .taken)
 
 returns-4 : tie.Need-returns-4
 unfolding asked
 returns-4 c =
-    row-3-many (asked (c .before .before .before .before .before .before .before))
-    (c .before .before .before .if1 .left) (c .before .before .if2 .left) (c .before .if3 .left) (c .if4 .taken)
+    row-3-many (asked (c .before .before .before .before .before .before .before .before))
+    (c .before .before .before .before .if1 .left) (rw (c .before .before .before .bytes-for .ensures) at (c .before .before .if2 .left)) (c .before .if3 .left) (c .if4 .taken)
 
-add-if5 : tie.Need-add-if5
-add-if5 c = search needs
+bytes-for-requires-2 : tie.Need-bytes-for-requires-2
+bytes-for-requires-2 c κs = search needs
 
 returns-5 : tie.Need-returns-5
 unfolding asked
 returns-5 c =
-    row-4 (asked (c .before .before .before .before .before .before .before .before))
-    (c .before .before .before .before .if1 .left) (c .before .before .before .if2 .left) (c .before .before .if3 .left) (c .before .if4 .left) (c .if5 .taken)
+    row-4 (asked (c .before .before .before .before .before .before .before .before .before .before))
+    (c .before .before .before .before .before .before .if1 .left) (rw (c .before .before .before .before .before .bytes-for .ensures) at (c .before .before .before .before .if2 .left)) (c .before .before .before .if3 .left) (c .before .before .if4 .left) (rw (c .before .bytes-for2 .ensures) at (c .if5 .taken))
 
 too-short-requires : tie.Need-too-short-requires
 too-short-requires c κs = search needs
@@ -50,8 +51,8 @@ too-short-requires c κs = search needs
 returns-6 : tie.Need-returns-6
 unfolding asked
 returns-6 c =
-    row-5 (asked (c .before .before .before .before .before .before .before .before .before .before))
-    (c .before .before .before .before .before .before .if1 .left) (c .before .before .before .before .before .if2 .left) (c .before .before .before .before .if3 .left) (c .before .before .before .if4 .left) (c .before .before .if5 .left)
+    row-5 (asked (c .before .before .before .before .before .before .before .before .before .before .before .before))
+    (c .before .before .before .before .before .before .before .before .if1 .left) (rw (c .before .before .before .before .before .before .before .bytes-for .ensures) at (c .before .before .before .before .before .before .if2 .left)) (c .before .before .before .before .before .if3 .left) (c .before .before .before .before .if4 .left) (rw (c .before .before .before .bytes-for2 .ensures) at (c .before .before .if5 .left))
     (sym (c .before .too-short .ensures) ∙ c .if6 .taken)
 
 places-requires : tie.Need-places-requires
@@ -63,16 +64,16 @@ cast-if7 c = search needs
 returns-7 : tie.Need-returns-7
 unfolding asked
 returns-7 c =
-    row-6 (asked (c .before .before .before .before .before .before .before .before .before .before .before .before .before))
-    (c .before .before .before .before .before .before .before .before .before .if1 .left) (c .before .before .before .before .before .before .before .before .if2 .left) (c .before .before .before .before .before .before .before .if3 .left) (c .before .before .before .before .before .before .if4 .left) (c .before .before .before .before .before .if5 .left)
+    row-6 (asked (c .before .before .before .before .before .before .before .before .before .before .before .before .before .before .before))
+    (c .before .before .before .before .before .before .before .before .before .before .before .if1 .left) (rw (c .before .before .before .before .before .before .before .before .before .before .bytes-for .ensures) at (c .before .before .before .before .before .before .before .before .before .if2 .left)) (c .before .before .before .before .before .before .before .before .if3 .left) (c .before .before .before .before .before .before .before .if4 .left) (rw (c .before .before .before .before .before .before .bytes-for2 .ensures) at (c .before .before .before .before .before .if5 .left))
     (sym (c .before .before .before .before .too-short .ensures) ∙ c .before .before .before .if6 .left)
     (rw (c .before .before .places .ensures) at (c .if7 .taken))
 
 returns-8 : tie.Need-returns-8
 unfolding asked
 returns-8 c =
-    row-7 (asked (c .before .before .before .before .before .before .before .before .before .before .before .before .before .before))
-    (c .before .before .before .before .before .before .before .before .before .before .if1 .left) (c .before .before .before .before .before .before .before .before .before .if2 .left) (c .before .before .before .before .before .before .before .before .if3 .left) (c .before .before .before .before .before .before .before .if4 .left) (c .before .before .before .before .before .before .if5 .left)
+    row-7 (asked (c .before .before .before .before .before .before .before .before .before .before .before .before .before .before .before .before))
+    (c .before .before .before .before .before .before .before .before .before .before .before .before .if1 .left) (rw (c .before .before .before .before .before .before .before .before .before .before .before .bytes-for .ensures) at (c .before .before .before .before .before .before .before .before .before .before .if2 .left)) (c .before .before .before .before .before .before .before .before .before .if3 .left) (c .before .before .before .before .before .before .before .before .if4 .left) (rw (c .before .before .before .before .before .before .before .bytes-for2 .ensures) at (c .before .before .before .before .before .before .if5 .left))
     (sym (c .before .before .before .before .before .too-short .ensures) ∙ c .before .before .before .before .if6 .left)
     (rw (c .before .before .before .places .ensures) at (c .before .if7 .left))
     (c .if8 .taken)
@@ -80,8 +81,8 @@ returns-8 c =
 returns-9 : tie.Need-returns-9
 unfolding asked
 returns-9 c =
-    no-row (asked (c .before .before .before .before .before .before .before .before .before .before .before .before .before .before))
-    (c .before .before .before .before .before .before .before .before .before .before .if1 .left) (c .before .before .before .before .before .before .before .before .before .if2 .left) (c .before .before .before .before .before .before .before .before .if3 .left) (c .before .before .before .before .before .before .before .if4 .left) (c .before .before .before .before .before .before .if5 .left)
+    no-row (asked (c .before .before .before .before .before .before .before .before .before .before .before .before .before .before .before .before))
+    (c .before .before .before .before .before .before .before .before .before .before .before .before .if1 .left) (rw (c .before .before .before .before .before .before .before .before .before .before .before .bytes-for .ensures) at (c .before .before .before .before .before .before .before .before .before .before .if2 .left)) (c .before .before .before .before .before .before .before .before .before .if3 .left) (c .before .before .before .before .before .before .before .before .if4 .left) (rw (c .before .before .before .before .before .before .before .bytes-for2 .ensures) at (c .before .before .before .before .before .before .if5 .left))
     (sym (c .before .before .before .before .before .too-short .ensures) ∙ c .before .before .before .before .if6 .left)
     (rw (c .before .before .before .places .ensures) at (c .before .if7 .left))
     (c .if8 .left)
@@ -91,11 +92,11 @@ check-spec =
     tie.close
     (tie.spec
     returns
-    add-if2
+    bytes-for-requires
     returns-2
     returns-3
     returns-4
-    add-if5
+    bytes-for-requires-2
     returns-5
     too-short-requires
     returns-6

@@ -16,30 +16,35 @@ returns-2 : tie.Need-returns-2
 unfolding hashVerdict judge
 returns-2 c = simp (ne-eqb _ _ (c .before .if1 .left), lt-ltb _ _ (c .if2 .taken))
 
-add-if3 : tie.Need-add-if3
-add-if3 c = search needs
+bytes-for-requires : tie.Need-bytes-for-requires
+bytes-for-requires c κs = search needs
 
 returns-3 : tie.Need-returns-3
 unfolding hashVerdict judge
-returns-3 c = simp (ne-eqb _ _ (c .before .before .if1 .left), le-ltb _ _ (c .before .if2 .left), lt-ltb _ _ (c .if3 .taken))
+returns-3 c =
+    let few = rw (c .before .bytes-for .ensures) at (c .if3 .taken) in
+    simp (ne-eqb _ _ (c .before .before .before .if1 .left), le-ltb _ _ (c .before .before .if2 .left), lt-ltb _ _ few)
 
 returns-4 : tie.Need-returns-4
 unfolding hashVerdict judge
 returns-4 c =
-    simp
-    (ne-eqb _ _ (c .before .before .before .if1 .left), le-ltb _ _ (c .before .before .if2 .left), le-ltb _ _ (c .before .if3 .left), lt-ltb _ _ (c .if4 .taken))
+    let enough = rw (c .before .before .bytes-for .ensures) at (c .before .if3 .left) in
+    simp (ne-eqb _ _ (c .before .before .before .before .if1 .left), le-ltb _ _ (c .before .before .before .if2 .left), le-ltb _ _ enough, lt-ltb _ _ (c .if4 .taken))
 
 cast-hash-of : tie.Need-cast-hash-of
 cast-hash-of c = search needs
 
 hash-of-requires : tie.Need-hash-of-requires
-hash-of-requires c κs = record { some-bits = omega arith; few-bits = c .before .before .if2 .left; bytes-there = c .before .if3 .left; fit = le-ltb _ _ (c .if4 .left) }
+hash-of-requires c κs =
+    let enough = rw (c .before .before .bytes-for .ensures) at (c .before .if3 .left) in
+    record { some-bits = omega arith; few-bits = c .before .before .before .if2 .left; bytes-there = enough; fit = le-ltb _ _ (c .if4 .left) }
 
 returns-5 : tie.Need-returns-5
 unfolding hashVerdict judge
 returns-5 c =
+    let enough = rw (c .before .before .before .bytes-for .ensures) at (c .before .before .if3 .left) in
     simp
-    (ne-eqb _ _ (c .before .before .before .before .if1 .left), le-ltb _ _ (c .before .before .before .if2 .left), le-ltb _ _ (c .before .before .if3 .left), le-ltb _ _ (c .before .if4 .left), c .hash-of .ensures)
+    (ne-eqb _ _ (c .before .before .before .before .before .if1 .left), le-ltb _ _ (c .before .before .before .before .if2 .left), le-ltb _ _ enough, le-ltb _ _ (c .before .if4 .left), c .hash-of .ensures)
 
 pub hash-value-spec : {M : Type 1} → statement M
 hash-value-spec =
@@ -47,7 +52,7 @@ hash-value-spec =
     (tie.spec
     returns
     returns-2
-    add-if3
+    bytes-for-requires
     returns-3
     returns-4
     cast-hash-of
