@@ -4,6 +4,7 @@ use mathlib.Core.Path.{_≡_, refl}
 use mathlib.Core.List.{[], _∷_}
 use Rattle.rules.specs.declared.Method.the-variants.{Plain, Skip}
 use Rattle.lines.specs.Input.{bad, lines, parse, prepend, readLine, firstLine, secondLine}
+use Rattle.lines.specs.Packing.{bitsFrom, bytesFrom, packed}
 use Rattle.lines.specs.Line.{decimalOf, digitsOf, numbers, acceptedLine, refusedLine}
 
 -- 10, 011
@@ -27,6 +28,11 @@ no-end = refl
 carriage-return : parse (49 ∷ 13 ∷ 10 ∷ 48 ∷ 10 ∷ []) ≡ bad
 unfolding parse readLine prepend firstLine secondLine
 carriage-return = refl
+
+-- document 01's V1, 0100110100
+word : packed (0 ∷ 1 ∷ 0 ∷ 0 ∷ 1 ∷ 1 ∷ 0 ∷ 1 ∷ 0 ∷ 0 ∷ []) ≡ 0b01001101 ∷ 0b00000000 ∷ []
+unfolding packed bytesFrom bitsFrom
+word = refl
 
 decimal : decimalOf 4294967295 ≡ 52 ∷ 50 ∷ 57 ∷ 52 ∷ 57 ∷ 54 ∷ 55 ∷ 50 ∷ 57 ∷ 53 ∷ []
 unfolding decimalOf digitsOf

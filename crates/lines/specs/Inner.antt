@@ -31,11 +31,6 @@ abbrev pub Sized : List ℕ → Input → Type 0
 Sized s (Lines m n) = (1 ≤ m) × ((m ≤ 2048) × ((n ≤ 4096) × (m + n + 2 ≡ length s)))
 Sized s Bad = Unit
 
--- the k bits of the characters from p on as a number, the first one leftmost; past the last character they are 0
-unfoldable pub charBits : List ℕ → ℕ → ℕ → ℕ
-charBits chars p zero = 0
-charBits chars p (suc k) = charBits chars p k * 2 + bitOf (getD chars (p + k) 0)
-
 -- a method's name, in the front of some bytes
 pub record Named (x : Method) (bytes : List ℕ) (n : ℕ) : Type 0 where
   pub is : take n bytes ≡ nameOf x

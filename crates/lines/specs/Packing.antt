@@ -1,14 +1,29 @@
--- What packing characters gives: each bit by what reading a bit means, and the bytes after them.
-use Prim.Native.Nat.{ℕ, _<_}
+-- A line's bits packed into bytes, "packed alike" a recording and a word.
+use Prim.Native.Nat.{ℕ, zero, suc, _+_, _*_}
 use mathlib.Core.Path.{_≡_}
-use mathlib.Core.List.{List}
-use lib.ListN.{length, getD, drop}
-use Rattle.bits.specs.Packed.{bitAt, bytesFor}
+use mathlib.Core.List.{List, [], _∷_, map}
+use lib.ListN.{length, getD, take, drop}
+use Rattle.io.specs.Counts.{Counts}
+use Rattle.bits.specs.Packed.{bytesFor}
 use Rattle.lines.specs.Input.{bitOf}
 
--- A buffer that is `before` at entry and `after` at exit: n bytes are written, bit p is that of character p, and the
--- bytes after them stay.
+-- the k bits of a list from p on as a number, the first one leftmost; past the last bit they are 0
+unfoldable pub bitsFrom : List ℕ → ℕ → ℕ → ℕ
+bitsFrom bits p zero = 0
+bitsFrom bits p (suc k) = bitsFrom bits p k * 2 + getD bits (p + k) 0
+
+-- k bytes of the bits, from byte b on: eight bits at a time
+unfoldable pub bytesFrom : List ℕ → ℕ → ℕ → List ℕ
+bytesFrom bits b zero = []
+bytesFrom bits b (suc k) = bitsFrom bits (b * 8) 8 ∷ bytesFrom bits (suc b) k
+
+-- the bytes of a list of bits: bit p of the bytes is bit p of the list, and the last byte is filled with 0
+unfoldable pub packed : List ℕ → List ℕ
+packed bits = bytesFrom bits 0 (bytesFor (length bits))
+
+-- A buffer that is `before` at entry and `after` at exit: its first n bytes are the characters' bits, and the bytes after
+-- them stay.
 pub record Packs (chars before : List ℕ) (n : ℕ) (after : List ℕ) : Type 0 where
-  pub count : n ≡ bytesFor (length chars)
-  pub bits : (p : ℕ) → p < length chars → bitAt after p ≡ bitOf (getD chars p 0)
+  pub is : take n after ≡ packed (map bitOf chars)
+  pub counts : Counts n after
   pub rest : drop n after ≡ drop n before

@@ -2,27 +2,34 @@
 -- Assumes nothing.
 use Prim.Native.Nat.{_-_, _^_, _≤_, _<_}
 use mathlib.Core.Path.{_≡_, refl, _∙_}
+use mathlib.Core.List.{map}
 use mathlib.Core.Logic.{⊎-elim}
 use native.Mathlib.Omega.{arith}
-use Rattle.lines.specs.Inner.{charBits}
+use borrow.Author.Needs.{needs}
+use Rattle.lines.specs.Input.{bitOf}
+use Rattle.lines.specs.Packing.{bitsFrom}
 use Rattle.lines.proofs.Bits.{chars-byte, chars-more, chars-past}
 use Rattle.lines.proofs.pack.byte.Statement.{statement}
 use Rattle.lines.proofs.pack.byte.Tie as tie
 
 abbrev Inv-loop : tie.InvT-loop
-Inv-loop chars p x₀ k₀ x k = (k ≤ 8) × (x ≡ charBits chars p k)
+Inv-loop chars first x₀ k₀ x k = (k ≤ 8) × (x ≡ bitsFrom (map bitOf chars) first k)
 
 abbrev μ-loop : tie.MeasureT-loop
-μ-loop chars p x₀ k₀ x k = 8 - k
+μ-loop chars first x₀ k₀ x k = 8 - k
 
 -- x has as many bits as characters are passed, so one more fits
 room : (c : tie.In-loop Inv-loop μ-loop) → c .before .loop .x < 2 ^ 7
 room c =
+    let a = c .before .before .before .args in
     let l = c .before .loop in
-    rw (l .inv .1) (chars-byte _ _ (l .k) (omega arith))
+    rw (l .inv .1) (chars-byte (a .chars .now) (a .p .0) (l .k) (omega arith))
+
+cast-first : tie.Need-cast-first Inv-loop μ-loop
+cast-first c = search needs
 
 loop-holds : tie.Need-loop-holds Inv-loop μ-loop
-unfolding charBits
+unfolding bitsFrom
 loop-holds c = (omega arith, refl)
 
 mul-x : tie.Need-mul-x Inv-loop μ-loop
@@ -48,9 +55,9 @@ loop-less c = omega arith
 
 loop-again : tie.Need-loop-again Inv-loop μ-loop
 loop-again c =
-    let a = c .before .before .before .args in
+    let a = c .before .before .before .before .args in
     let l = c .before .before .loop in
-    (omega arith, ⊎-elim (λ w. w .2 ∙ chars-more (a .chars .now) (a .p) (l .k) (l .x) (l .inv .1)) (λ w. w .1 ∙ chars-past (a .chars .now) (a .p) (l .k) (l .x) (l .inv .1) (w .0 .left)) (c .if1 .came))
+    (omega arith, ⊎-elim (λ w. w .2 ∙ chars-more (a .chars .now) (a .p .0) (l .k) (l .x) (l .inv .1)) (λ w. w .1 ∙ chars-past (a .chars .now) (a .p .0) (l .k) (l .x) (l .inv .1) (w .0 .left)) (c .if1 .came))
 
 returns : tie.Need-returns Inv-loop μ-loop
 returns c =
@@ -64,6 +71,7 @@ byte-spec =
     (tie.spec
     Inv-loop
     μ-loop
+    cast-first
     loop-holds
     mul-x
     add-if1
