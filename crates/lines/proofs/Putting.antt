@@ -52,9 +52,9 @@ pub puts-numbers : (a b c list : List ℕ) (start at r i : ℕ) → i < length l
 puts-numbers a b c list start at r i h p q =
     rw (add-one i, take-suc list i 0 h, numbers-snoc) (puts-then p q)
 
--- what stands at the front of the buffer
-pub line-of : {b a l m : List ℕ} {r : ℕ} → Puts b 0 l r a → r ≤ length a → l ≡ m → Counts r a × (take r a ≡ m)
-line-of {b} {a} {l} {m} {r} p h e = ((h, omega (arith, p .next, ap length (p .front))), p .front ∙ e)
+-- what stands in front of a buffer that was stored from its first byte on
+pub front-of : {b a l : List ℕ} {r : ℕ} → Puts b 0 l r a → r ≤ length a → Counts r a × (take r a ≡ l)
+front-of {b} {a} {l} {r} p h = ((h, omega (arith, p .next, ap length (p .front))), p .front)
 
 -- the parts of a line
 pub accepted-parts : (x : Method) (steps n : ℕ) (hits : List ℕ) → length hits ≡ n

@@ -1,15 +1,13 @@
 // Printing of a line into a lent buffer.
 use rules::Method;
-ghost use mathlib.Core.Path.{_≡_};
 ghost use mathlib.Core.List.{_∷_};
 ghost use Prim.Native.Nat.{_+_, _*_, _≤_};
 ghost use lib.ListN.{length, take};
 ghost use Rattle.lines.specs.Line.{nameOf, decimalOf, numbers, acceptedLine, refusedLine};
 ghost use Rattle.lines.specs.Inner.{Named, Puts};
-ghost use Rattle.io.specs.Counts.{Counts};
 
 // Stores bytes from `at` on, and gives the index after them.
-fn put(out: &mut [u8], at: usize, bytes: &[u8]) -> usize
+pub fn put(out: &mut [u8], at: usize, bytes: &[u8]) -> usize
     requires { ⌜ at + length (now bytes) ≤ length (now out) ⌝ }
     ensures { λ r. ⌜ Puts (now (out .entry)) at (now (bytes .entry)) r (now (out .exit)) ⌝ }
 {
@@ -44,16 +42,16 @@ fn name_of(method: Method) -> Name
     }
 }
 
-// Stores the method's name at the front.
-fn put_name(out: &mut [u8], method: Method) -> usize
-    requires { ⌜ 5 ≤ length (now out) ⌝ }
-    ensures is { λ r. ⌜ Puts (now (out .entry)) 0 (nameOf method) r (now (out .exit)) ⌝ }
-    ensures short { λ r. ⌜ r ≤ 5 ⌝ }
+// Stores the method's name.
+fn put_name(out: &mut [u8], at: usize, method: Method) -> usize
+    requires { ⌜ at + 5 ≤ length (now out) ⌝ }
+    ensures is { λ r. ⌜ Puts (now (out .entry)) at (nameOf method) r (now (out .exit)) ⌝ }
+    ensures short { λ r. ⌜ r ≤ at + 5 ⌝ }
 {
     let name = name_of(method);
     let bytes = name.0;
     let k = name.1;
-    put(out, 0, &bytes[..k])
+    put(out, at, &bytes[..k])
 }
 
 // Stores a space and a number.
@@ -83,13 +81,20 @@ fn put_numbers(out: &mut [u8], start: usize, list: &[u32], count: usize) -> usiz
     at
 }
 
-// The line of an accepted call: the first `hits` cells of the list are its places.
-pub fn accepted(out: &mut [u8], method: Method, steps: u32, hits: u32, list: &[u32]) -> usize
-    requires { ⌜ (hits ≤ length (now list)) × (48 + hits * 21 ≤ length (now out)) ⌝ }
-    ensures counts { λ r. ⌜ Counts r (now (out .exit)) ⌝ }
-    ensures is { λ r. ⌜ take r (now (out .exit)) ≡ acceptedLine method steps (take hits (now (list .entry))) ⌝ }
+// Stores the line of an accepted call: the first `hits` cells of the list are its places.
+pub fn accepted(
+    out: &mut [u8],
+    at: usize,
+    method: Method,
+    steps: u32,
+    hits: u32,
+    list: &[u32],
+) -> usize
+    requires { ⌜ (hits ≤ length (now list)) × (at + 48 + hits * 21 ≤ length (now out)) ⌝ }
+    ensures is { λ r. ⌜ Puts (now (out .entry)) at (acceptedLine method steps (take hits (now (list .entry)))) r (now (out .exit)) ⌝ }
+    ensures short { λ r. ⌜ r ≤ at + 48 + hits * 21 ⌝ }
 {
-    let a = put_name(out, method);
+    let a = put_name(out, at, method);
     let b = put_number(out, a, steps);
     let c = put_number(out, b, hits);
     let d = put_numbers(out, c, list, hits as usize);
@@ -97,13 +102,13 @@ pub fn accepted(out: &mut [u8], method: Method, steps: u32, hits: u32, list: &[u
     d + 1
 }
 
-// The line of a refused call.
-pub fn refused(out: &mut [u8], method: Method, number: u32) -> usize
-    requires { ⌜ 40 ≤ length (now out) ⌝ }
-    ensures counts { λ r. ⌜ Counts r (now (out .exit)) ⌝ }
-    ensures is { λ r. ⌜ take r (now (out .exit)) ≡ refusedLine method number ⌝ }
+// Stores the line of a refused call.
+pub fn refused(out: &mut [u8], at: usize, method: Method, number: u32) -> usize
+    requires { ⌜ at + 48 ≤ length (now out) ⌝ }
+    ensures is { λ r. ⌜ Puts (now (out .entry)) at (refusedLine method number) r (now (out .exit)) ⌝ }
+    ensures short { λ r. ⌜ r ≤ at + 48 ⌝ }
 {
-    let a = put_name(out, method);
+    let a = put_name(out, at, method);
     let b = put(out, a, b" refused");
     let c = put_number(out, b, number);
     out[c] = 10;
