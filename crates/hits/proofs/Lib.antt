@@ -1,2 +1,4 @@
--- What the proof of `search_line` cites.
+-- What the proofs of several functions cite, and the theorems about what is printed.
+pub mod Enough
 pub mod Answers
+pub mod Reporting

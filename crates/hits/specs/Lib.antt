@@ -1,2 +1,3 @@
--- What the contracts of the program cite.
+-- What the program prints: a reader believes `Printed`. `Report` is what its functions promise each other.
+pub mod Printed
 pub mod Report

@@ -1,15 +1,19 @@
-// The line of one method: the search from a fresh mark, and what it answers.
+// What the program prints, stored into a lent buffer: from the bytes of the input to the bytes for the writer.
 use lines::line;
+use lines::pack;
+use lines::parse;
+use lines::parse::Input;
 use search::Mark;
 use search::Method;
 use search::Outcome;
 use search::Refusal;
 ghost use mathlib.Core.Path.{_≡_};
-ghost use Prim.Native.Nat.{_+_, _*_, _≤_};
+ghost use Prim.Native.Nat.{_+_, _-_, _≤_};
 ghost use lib.ListN.{length, take};
 ghost use Rattle.io.specs.Counts.{Counts};
-ghost use Rattle.search.specs.Verdict.{verdict};
-ghost use Rattle.hits.specs.Report.{numberIn, lineOf, asked};
+ghost use Rattle.lines.specs.Inner.{Puts, Sized, inputIn};
+ghost use Rattle.hits.specs.Printed.{searchLine, fourLines, printedOf, printed};
+ghost use Rattle.hits.specs.Report.{numberIn};
 
 // "budget 2^32 − 1"
 const BUDGET: u32 = 4294967295;
@@ -32,25 +36,69 @@ fn number_in(outcome: Outcome) -> u32
     }
 }
 
-// Searches the first n bits of the text for the pattern of m bits by one method, and stores its line to the front of
-// `out`. The cells of the list and of the scratch may hold anything.
-pub(crate) fn search_line(
+// Searches the first n bits of the text for the pattern of m bits by one method, and stores its line from `at` on. There
+// are at most 4,096 places, and a cell for each.
+fn search_line(
     text: &[u8],
     n: u64,
     word: &[u8],
     m: u64,
     method: Method,
-    list: &mut [u32],
-    scratch: &mut [u64],
     out: &mut [u8],
+    at: usize,
 ) -> usize
-    requires { ⌜ 48 + length (now list) * 21 ≤ length (now out) ⌝ }
-    ensures counts { λ r. ⌜ Counts r (now (out .exit)) ⌝ }
-    ensures is { λ r. ⌜ take r (now (out .exit)) ≡ lineOf method (verdict (asked (now (text .entry)) n (now (word .entry)) m method (now (list .entry)) (now (scratch .entry)))) ⌝ }
+    requires { ⌜ (1 + n - m ≤ 4096) × (at + 86064 ≤ length (now out)) ⌝ }
+    ensures is { λ r. ⌜ Puts (now (out .entry)) at (searchLine (record { bytes = now (text .entry); count = n }) (record { bytes = now (word .entry); count = m }) method) r (now (out .exit)) ⌝ }
+    ensures short { λ r. ⌜ r ≤ at + 86064 ⌝ }
 {
-    let outcome = Mark::new().search(text, n, word, m, method, BUDGET, list, scratch);
+    let mut list = [0u32; 4096];
+    let mut scratch = [0u64; 4224];
+    let outcome = Mark::new().search(text, n, word, m, method, BUDGET, &mut list, &mut scratch);
     let Outcome::Accepted(answer) = outcome else {
-        return line::refused(out, method, number_in(outcome));
+        return line::refused(out, at, method, number_in(outcome));
     };
-    line::accepted(out, method, answer.steps, answer.hits, list)
+    line::accepted(out, at, method, answer.steps, answer.hits, &list)
+}
+
+// Stores the lines of the four methods.
+fn four_lines(text: &[u8], n: u64, word: &[u8], m: u64, out: &mut [u8]) -> usize
+    requires { ⌜ (1 + n - m ≤ 4096) × (344256 ≤ length (now out)) ⌝ }
+    ensures is { λ r. ⌜ Puts (now (out .entry)) 0 (fourLines (record { bytes = now (text .entry); count = n }) (record { bytes = now (word .entry); count = m })) r (now (out .exit)) ⌝ }
+    ensures short { λ r. ⌜ r ≤ 344256 ⌝ }
+{
+    let a = search_line(text, n, word, m, Method::Plain, out, 0);
+    let b = search_line(text, n, word, m, Method::Hash, out, a);
+    let c = search_line(text, n, word, m, Method::Skip, out, b);
+    search_line(text, n, word, m, Method::Wide, out, c)
+}
+
+// Packs a pattern of m characters and a text of n, which start and end the input, and stores their lines.
+fn packed_lines(input: &[u8], m: usize, n: usize, out: &mut [u8]) -> usize
+    requires { ⌜ Sized (now input) (Input.Lines m n) × (344256 ≤ length (now out)) ⌝ }
+    ensures is { λ r. ⌜ Puts (now (out .entry)) 0 (printedOf (inputIn (now (input .entry)) (Input.Lines m n))) r (now (out .exit)) ⌝ }
+    ensures short { λ r. ⌜ r ≤ 344256 ⌝ }
+{
+    let mut word_bytes = [0u8; 256];
+    let mut text_bytes = [0u8; 512];
+    let start = m + 1;
+    let end = start + n;
+    let a = pack::pack(&input[..m], &mut word_bytes);
+    let b = pack::pack(&input[start..end], &mut text_bytes);
+    let word: &[u8] = &word_bytes[..a];
+    let text: &[u8] = &text_bytes[..b];
+    four_lines(text, n as u64, word, m as u64, out)
+}
+
+// Stores what is printed for the input, the four lines or that it is bad, to the front of `out`, and gives how many bytes
+// that is.
+pub(crate) fn report(input: &[u8], out: &mut [u8]) -> usize
+    requires { ⌜ 344256 ≤ length (now out) ⌝ }
+    ensures counts { λ r. ⌜ Counts r (now (out .exit)) ⌝ }
+    ensures is { λ r. ⌜ take r (now (out .exit)) ≡ printed (now (input .entry)) ⌝ }
+{
+    let parsed = parse::parse(input);
+    let Input::Lines(m, n) = parsed else {
+        return line::put(out, 0, b"bad input\n");
+    };
+    packed_lines(input, m, n, out)
 }

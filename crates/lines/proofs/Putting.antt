@@ -17,6 +17,10 @@ use Rattle.lines.specs.Inner.{Puts}
 pub puts-none : (b : List ℕ) (at : ℕ) → Puts b at [] at b
 puts-none b at = record { next = sym (add-zero at); front = sym (append-nil (take at b)) }
 
+-- the same bytes under another name
+pub puts-as : {a b xs ys : List ℕ} {at r : ℕ} → xs ≡ ys → Puts a at xs r b → Puts a at ys r b
+puts-as e p = rw e at p
+
 -- one run after another
 pub puts-then : {a b c xs ys : List ℕ} {at i j : ℕ} → Puts a at xs i b → Puts b i ys j c → Puts a at (xs ++ ys) j c
 puts-then {a} {b} {c} {xs} {ys} {at} {i} {j} p q =

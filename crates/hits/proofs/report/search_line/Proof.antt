@@ -1,13 +1,27 @@
--- `hits::report::search_line` meets its contract: the call's promise decides which line is printed.
+-- `hits::report::search_line` meets its contract: the call's promise decides which line is stored. The lengths of the arrays
+-- come from a law, since computing them counts each cell.
 -- Assumes nothing.
+use Prim.Native.Nat.{ℕ, _≤_}
+use mathlib.Core.Path.{_≡_, sym}
 use native.Mathlib.Omega.{arith}
-use Rattle.hits.proofs.Answers.{Call, refused-printed, accepted-printed, fits}
+use lib.ListN.{length, replicate, length-replicate}
 use borrow.Author.Needs.{needs}
+use Rattle.lines.proofs.Putting.{puts-as}
+use Rattle.hits.proofs.Answers.{Call, refused-printed, accepted-printed, fits}
 use Rattle.hits.proofs.report.search_line.Statement.{statement}
 use Rattle.hits.proofs.report.search_line.Tie as tie
 
+cells : (n : ℕ) → n ≡ length (replicate {A = ℕ} n 0)
+cells n = sym (length-replicate n 0)
+
 new-requires : tie.Need-new-requires
 new-requires c κs = search needs
+
+slice-aggregate-search : tie.Need-slice-aggregate-search
+slice-aggregate-search c = cells _
+
+slice-aggregate-search-2 : tie.Need-slice-aggregate-search-2
+slice-aggregate-search-2 c = cells _
 
 search-requires : tie.Need-search-requires
 search-requires c κs = search needs
@@ -27,58 +41,59 @@ refused-requires c κs = search needs
 same-length : tie.Need-same-length
 same-length c = search needs
 
-same-length-2 : tie.Need-same-length-2
-same-length-2 c = search needs
-
-same-length-3 : tie.Need-same-length-3
-same-length-3 c = search needs
-
 -- what the search promised
-made : (c : tie.After-search) → (let a = c .before .before .before .before .before .before .before .before .before .args in Call (a .text .now) (a .n) (a .word .now) (a .m) (a .method) (a .list .now) (a .scratch .now) (c .search .result) (c .search .last .1 .1 .1 .1 .1 .1 .1 .0) (c .search .last .1 .1 .1 .1 .1 .1 .1 .1 .0))
-made c = record { mark = _; fresh = c .before .before .before .new .ensures; promise = c .search .ensures }
+made : (c : tie.After-search) → (let a = c .before .before .before .before .before .before .before .args in Call (record { bytes = a .text .now; count = a .n }) (record { bytes = a .word .now; count = a .m }) (a .method) (replicate 4096 0) (replicate 4224 0) (c .search .result) (c .search .last .1 .1 .1 .1 .1 .1 .1 .0) (c .search .last .1 .1 .1 .1 .1 .1 .1 .1 .0))
+made c =
+    record {
+      mark = _;
+      fresh = c .before .before .before .new .ensures;
+      cells = omega (arith, cells 4096);
+      room = omega (arith, cells 4224);
+      promise = c .search .ensures;
+    }
+
+-- the list has still 4,096 cells
+few-hits : (c : tie.After-search) {hits : ℕ} → hits ≤ length (c .search .last .1 .1 .1 .1 .1 .1 .1 .0) → hits ≤ 4096
+few-hits c h = omega (arith, h, c .search .kept .1 .1 .1 .1 .1 .1 .1 .0, cells 4096)
 
 returns : tie.Need-returns
 returns c =
     let e = c .before .before .refused .ensures in
-    (e .0, refused-printed (made (c .before .before .before .before .before .before .before .before .before .before .before)) (c .before .before .before .before .before .enum-told .given .1) (c .before .before .before .number-in .ensures) (e .1))
+    (puts-as (refused-printed (made (c .before .before .before .before .before .before .before .before .before)) (c .before .before .before .before .before .enum-told .given .1) (c .before .before .before .number-in .ensures)) (e .0), omega (arith, e .1))
+
+slice-aggregate-accepted : tie.Need-slice-aggregate-accepted
+slice-aggregate-accepted c = search needs
 
 accepted-requires : tie.Need-accepted-requires
 accepted-requires c κs =
-    let a = c .before .before .before .before .before .before .before .before .before in
-    let room = fits (made a) (c .before .before .before .outcome .given .1) in
-    let kept = a .search .kept .1 .1 .1 .1 .1 .1 .1 .0 in
-    (room, omega (arith, room, kept))
+    let room = fits (made (c .before .before .before .before .before .before .before)) (c .before .before .before .outcome .given .1) in
+    let few = few-hits (c .before .before .before .before .before .before .before) room in
+    (room, omega (arith, few))
 
-same-length-4 : tie.Need-same-length-4
-same-length-4 c = search needs
-
-same-length-5 : tie.Need-same-length-5
-same-length-5 c = search needs
-
-same-length-6 : tie.Need-same-length-6
-same-length-6 c = search needs
+same-length-2 : tie.Need-same-length-2
+same-length-2 c = search needs
 
 returns-2 : tie.Need-returns-2
 returns-2 c =
     let e = c .before .before .accepted .ensures in
-    (e .0, accepted-printed (made (c .before .before .before .before .before .before .before .before .before .before .before .before)) (c .before .before .before .before .before .before .outcome .given .1) (e .1))
+    let few = few-hits (c .before .before .before .before .before .before .before .before .before .before) (fits (made (c .before .before .before .before .before .before .before .before .before .before)) (c .before .before .before .before .before .before .outcome .given .1)) in
+    (puts-as (accepted-printed (made (c .before .before .before .before .before .before .before .before .before .before)) (c .before .before .before .before .before .before .outcome .given .1)) (e .0), omega (arith, few, e .1))
 
 pub search-line-spec : {M : Type 1} → statement M
 search-line-spec =
     tie.close
     (tie.spec
     new-requires
+    slice-aggregate-search
+    slice-aggregate-search-2
     search-requires
     enum-known-outcome
     enum-told
     number-in-requires
     refused-requires
     same-length
-    same-length-2
-    same-length-3
     returns
+    slice-aggregate-accepted
     accepted-requires
-    same-length-4
-    same-length-5
-    same-length-6
+    same-length-2
     returns-2)

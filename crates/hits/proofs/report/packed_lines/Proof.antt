@@ -1,12 +1,14 @@
--- `hits::print_lines` meets its contract: the parts of the input are packed into buffers that hold them.
+-- `hits::report::packed_lines` meets its contract: the bytes that are searched are the packed lines of the input.
 -- Assumes nothing.
 use native.Mathlib.Omega.{arith}
 use mathlib.Core.Path.{sym}
 use lib.ListN.{length-take}
 use lib.Seq.{length-take-le}
 use borrow.Author.Needs.{needs}
-use Rattle.hits.proofs.print_lines.Statement.{statement}
-use Rattle.hits.proofs.print_lines.Tie as tie
+use Rattle.lines.proofs.Putting.{puts-as}
+use Rattle.hits.proofs.Reporting.{packed-printed}
+use Rattle.hits.proofs.report.packed_lines.Statement.{statement}
+use Rattle.hits.proofs.report.packed_lines.Tie as tie
 
 add-start : tie.Need-add-start
 add-start c = search needs
@@ -38,29 +40,34 @@ slice-aggregate-pack-3 c = search needs
 pack-requires-2 : tie.Need-pack-requires-2
 pack-requires-2 c κs = search needs
 
+array-share-prefix-word-bytes : tie.Need-array-share-prefix-word-bytes
+array-share-prefix-word-bytes c = search needs
+
 slice-aggregate-word : tie.Need-slice-aggregate-word
 slice-aggregate-word c = search needs
+
+array-share-prefix-text-bytes : tie.Need-array-share-prefix-text-bytes
+array-share-prefix-text-bytes c = search needs
 
 slice-aggregate-text : tie.Need-slice-aggregate-text
 slice-aggregate-text c = search needs
 
-print-requires : tie.Need-print-requires
-print-requires c κs = search needs
+four-lines-requires : tie.Need-four-lines-requires
+four-lines-requires c κs = search needs
 
-print-requires-2 : tie.Need-print-requires-2
-print-requires-2 c κs = search needs
-
-print-requires-3 : tie.Need-print-requires-3
-print-requires-3 c κs = search needs
-
-print-requires-4 : tie.Need-print-requires-4
-print-requires-4 c κs = search needs
+same-length : tie.Need-same-length
+same-length c = search needs
 
 returns : tie.Need-returns
-returns c = search needs
+returns c =
+    let a = c .before .before .before .before .before .before .before .before .before .before .before .before .before .before .before .before .args in
+    let word = c .before .before .before .before .before .before .before .before .before .before .before .pack in
+    let text = c .before .before .before .before .before .before .before .pack2 in
+    let e = c .before .before .four-lines .ensures in
+    (puts-as (packed-printed (a .input .now) (a .m) (a .n) (omega arith) (word .ensures .is) (text .ensures .is)) (e .0), e .1)
 
-pub print-lines-spec : {M : Type 1} → statement M
-print-lines-spec =
+pub packed-lines-spec : {M : Type 1} → statement M
+packed-lines-spec =
     tie.close
     (tie.spec
     add-start
@@ -73,10 +80,10 @@ print-lines-spec =
     part-pack-end
     slice-aggregate-pack-3
     pack-requires-2
+    array-share-prefix-word-bytes
     slice-aggregate-word
+    array-share-prefix-text-bytes
     slice-aggregate-text
-    print-requires
-    print-requires-2
-    print-requires-3
-    print-requires-4
+    four-lines-requires
+    same-length
     returns)

@@ -1,0 +1,40 @@
+-- What is stored of each part of the input is what is printed.
+-- Assumes nothing.
+use Prim.Native.Nat.{ℕ, _+_, _-_}
+use mathlib.Core.Path.{_≡_, sym, ap, _∙_}
+use mathlib.Core.List.{List, map}
+use native.Mathlib.Omega.{arith}
+use lib.ListN.{length, take, drop, length-map, length-take, length-drop}
+use Rattle.bits.specs.Packed.{Packed}
+use Rattle.rules.specs.declared.Method.the-variants.{Plain, Hash, Skip, Wide}
+use Rattle.rules.specs.Pattern.{Pattern}
+use Rattle.lines.specs.declared.parse.Input.{Input}
+use Rattle.lines.specs.declared.parse.Input.the-variants.{Lines}
+use Rattle.lines.specs.Input.{bitOf, parse}
+use Rattle.lines.specs.Packing.{packed}
+use Rattle.lines.specs.Inner.{Puts, inputIn}
+use Rattle.lines.proofs.Putting.{puts-then}
+use Rattle.hits.specs.Printed.{searchLine, fourLines, printedOf, printed}
+
+-- the four lines, one after another
+pub four-stored : (t : Packed) (w : Pattern) {a b c d e : List ℕ} {i j k l : ℕ}
+    → Puts a 0 (searchLine t w Plain) i b → Puts b i (searchLine t w Hash) j c → Puts c j (searchLine t w Skip) k d → Puts d k (searchLine t w Wide) l e
+    → Puts a 0 (fourLines t w) l e
+unfolding fourLines
+four-stored t w p q r s = puts-then p (puts-then q (puts-then r s))
+
+-- the bytes that are packed from the input's two lines, and the characters' numbers, give the lines of the bits
+pub packed-printed : (s : List ℕ) (m n : ℕ) {word text : List ℕ} → m + n + 2 ≡ length s → word ≡ packed (map bitOf (take m s))
+    → text ≡ packed (map bitOf (take (m + 1 + n - (m + 1)) (drop (m + 1) s)))
+    → fourLines (record { bytes = text; count = n }) (record { bytes = word; count = m }) ≡ printedOf (inputIn s (Lines m n))
+unfolding printedOf
+packed-printed s m n size e f =
+    let first : length (map bitOf (take m s)) ≡ m = simp (length-map, length-take) (omega arith) in
+    let part : m + 1 + n - (m + 1) ≡ n = omega arith in
+    let second : length (map bitOf (take n (drop (m + 1) s))) ≡ n = simp (length-map, length-take, length-drop) (omega arith) in
+    rw (e, f, part, first, second)
+
+-- what the code found in the input decides what is printed
+pub input-printed : (s : List ℕ) (p q : Input) → inputIn s p ≡ parse s → p ≡ q → printedOf (inputIn s q) ≡ printed s
+unfolding printed
+input-printed s p q found is = ap printedOf (ap (inputIn s) (sym is) ∙ found)

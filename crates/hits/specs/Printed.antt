@@ -1,0 +1,60 @@
+-- What the program prints, for each input.
+use Prim.Native.Nat.{ℕ, _-_, _^_}
+use mathlib.Core.List.{List, [], _∷_, _++_}
+use lib.ListN.{length, replicate}
+use Rattle.bits.specs.Packed.{Packed}
+use Rattle.rules.specs.declared.Method.{Method}
+use Rattle.rules.specs.declared.Method.the-variants.{Plain, Hash, Skip, Wide}
+use Rattle.rules.specs.Pattern.{Pattern}
+use Rattle.rules.specs.Occurrence.{places}
+use Rattle.rules.specs.Machine.{Run}
+use Rattle.search.specs.Verdict.{Request, Verdict, refused, accepted, verdict, scratchCells}
+use Rattle.lines.specs.Input.{Parsed, bad, lines, parse}
+use Rattle.lines.specs.Packing.{packed}
+use Rattle.lines.specs.Line.{acceptedLine, refusedLine}
+
+-- "Anything else prints the one line `bad input`."
+abbrev pub badInput : List ℕ
+badInput = 98 ∷ 97 ∷ 100 ∷ 32 ∷ 105 ∷ 110 ∷ 112 ∷ 117 ∷ 116 ∷ 10 ∷ []
+
+-- the bits of the input's second line as a recording, and those of its first line as a word
+abbrev pub textIn : List ℕ → Packed
+textIn bits = record { bytes = packed bits; count = length bits }
+
+abbrev pub patternIn : List ℕ → Pattern
+patternIn bits = record { bytes = packed bits; count = length bits }
+
+-- "It searches in each way from 0 with budget 2^32 − 1 and cells for all": a cell for each place. The scratch is the least
+-- that a search takes. Of the cells a search asks only how many they are.
+unfoldable pub asked : Packed → Pattern → Method → Request
+asked t w x =
+    record {
+      text = t;
+      pattern = w;
+      method = x;
+      mark = 0;
+      budget = 2 ^ 32 - 1;
+      list = replicate (places t w) 0;
+      scratch = replicate scratchCells 0;
+    }
+
+-- "A line .. is the method, steps, hit count and the hits; where the search refuses, it is the method, `refused` and
+-- the number." The verdict is that of the definitions to which the search call is equated.
+unfoldable pub lineOf : Method → Verdict Run → List ℕ
+lineOf x (accepted r) = acceptedLine x (r .steps) (r .written)
+lineOf x (refused number) = refusedLine x number
+
+unfoldable pub searchLine : Packed → Pattern → Method → List ℕ
+searchLine t w x = lineOf x (verdict (asked t w x))
+
+-- "the ways come in the order shown below": plain, hash, skip, wide
+unfoldable pub fourLines : Packed → Pattern → List ℕ
+fourLines t w = searchLine t w Plain ++ (searchLine t w Hash ++ (searchLine t w Skip ++ searchLine t w Wide))
+
+unfoldable pub printedOf : Parsed → List ℕ
+printedOf bad = badInput
+printedOf (lines w t) = fourLines (textIn t) (patternIn w)
+
+-- "Program `hits` reads two lines .. from standard input"
+unfoldable pub printed : List ℕ → List ℕ
+printed s = printedOf (parse s)
