@@ -2,3 +2,5 @@
 pub mod Enough
 pub mod Answers
 pub mod Reporting
+pub mod Printed
+pub mod Examples

@@ -1,3 +1,5 @@
--- What the program prints: a reader believes `Printed`. `Report` is what its functions promise each other.
+-- What the program prints, and what is claimed of it: a reader believes these definitions. `Report` is what its functions
+-- promise each other.
 pub mod Printed
+pub mod Claims
 pub mod Report
