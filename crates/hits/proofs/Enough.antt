@@ -22,6 +22,16 @@ use Rattle.search.specs.Verdict.{Request, Verdict, refused, accepted, rows, All
 use Rattle.search.proofs.Verdict.{refused-iff, accepted-fail, accepted-iff}
 use Rattle.hits.specs.Printed.{asked}
 
+-- the length of an array: computing it counts each cell
+pub cells : (n : ℕ) → n ≡ length (replicate {A = ℕ} n 0)
+cells n = sym (length-replicate n 0)
+
+pub holds : (k n : ℕ) → k ≤ n → k ≤ length (replicate {A = ℕ} n 0)
+holds k n h = rw (length-replicate {A = ℕ} n 0) h
+
+pub held : {k : ℕ} (n : ℕ) (l : List ℕ) → length l ≡ length (replicate {A = ℕ} n 0) → k ≤ length l → k ≤ n
+held {k} n l e h = rw (e ∙ length-replicate {A = ℕ} n 0) at h
+
 module _ (x : Method) (t : Packed) (w : Pattern) (fit : unfit x (w .count) ≡ false) where
   -- a step finds no more than the places that it decides
   few : (s : ℕ) → s < places t w → (s < next x t w s) × (length (finds x t w s) ≤ next x t w s - s)

@@ -8,7 +8,7 @@ use libc::STDOUT_FILENO;
 fn main() {
     // One byte more than the longest good input: longer input fills the buffer, and is bad.
     let mut input = [0u8; 6147];
-    let mut out = [0u8; 344256];
+    let mut out = [0u8; 180336];
     let k = io::read_full(STDIN_FILENO, &mut input);
     let r = report::report(&input[..k], &mut out);
     if !io::write_all(STDOUT_FILENO, &out[..r]) {

@@ -47,9 +47,9 @@ fn search_line(
     out: &mut [u8],
     at: usize,
 ) -> usize
-    requires { ⌜ (1 + n - m ≤ 4096) × (at + 86064 ≤ length (now out)) ⌝ }
+    requires { ⌜ (1 + n - m ≤ 4096) × (at + 45084 ≤ length (now out)) ⌝ }
     ensures is { λ r. ⌜ Puts (now (out .entry)) at (searchLine (record { bytes = now (text .entry); count = n }) (record { bytes = now (word .entry); count = m }) method) r (now (out .exit)) ⌝ }
-    ensures short { λ r. ⌜ r ≤ at + 86064 ⌝ }
+    ensures short { λ r. ⌜ r ≤ at + 45084 ⌝ }
 {
     let mut list = [0u32; 4096];
     let mut scratch = [0u64; 4224];
@@ -62,9 +62,9 @@ fn search_line(
 
 // Stores the lines of the four methods.
 fn four_lines(text: &[u8], n: u64, word: &[u8], m: u64, out: &mut [u8]) -> usize
-    requires { ⌜ (1 + n - m ≤ 4096) × (344256 ≤ length (now out)) ⌝ }
+    requires { ⌜ (1 + n - m ≤ 4096) × (180336 ≤ length (now out)) ⌝ }
     ensures is { λ r. ⌜ Puts (now (out .entry)) 0 (fourLines (record { bytes = now (text .entry); count = n }) (record { bytes = now (word .entry); count = m })) r (now (out .exit)) ⌝ }
-    ensures short { λ r. ⌜ r ≤ 344256 ⌝ }
+    ensures short { λ r. ⌜ r ≤ 180336 ⌝ }
 {
     let a = search_line(text, n, word, m, Method::Plain, out, 0);
     let b = search_line(text, n, word, m, Method::Hash, out, a);
@@ -74,9 +74,9 @@ fn four_lines(text: &[u8], n: u64, word: &[u8], m: u64, out: &mut [u8]) -> usize
 
 // Packs a pattern of m characters and a text of n, which start and end the input, and stores their lines.
 fn packed_lines(input: &[u8], m: usize, n: usize, out: &mut [u8]) -> usize
-    requires { ⌜ Sized (now input) (Input.Lines m n) × (344256 ≤ length (now out)) ⌝ }
+    requires { ⌜ Sized (now input) (Input.Lines m n) × (180336 ≤ length (now out)) ⌝ }
     ensures is { λ r. ⌜ Puts (now (out .entry)) 0 (printedOf (inputIn (now (input .entry)) (Input.Lines m n))) r (now (out .exit)) ⌝ }
-    ensures short { λ r. ⌜ r ≤ 344256 ⌝ }
+    ensures short { λ r. ⌜ r ≤ 180336 ⌝ }
 {
     let mut word_bytes = [0u8; 256];
     let mut text_bytes = [0u8; 512];
@@ -92,7 +92,7 @@ fn packed_lines(input: &[u8], m: usize, n: usize, out: &mut [u8]) -> usize
 // Stores what is printed for the input, the four lines or that it is bad, to the front of `out`, and gives how many bytes
 // that is.
 pub(crate) fn report(input: &[u8], out: &mut [u8]) -> usize
-    requires { ⌜ 344256 ≤ length (now out) ⌝ }
+    requires { ⌜ 180336 ≤ length (now out) ⌝ }
     ensures counts { λ r. ⌜ Counts r (now (out .exit)) ⌝ }
     ensures is { λ r. ⌜ take r (now (out .exit)) ≡ printed (now (input .entry)) ⌝ }
 {

@@ -39,13 +39,13 @@ unfolding decimalOf
 fewest k n w = fewest-from k (suc n) n (omega arith) w
 
 -- a number of 32 bits has at most ten digits
-pub most : (k n : ℕ) → Fewest 10 1 n k → n < 2 ^ 32 → k ≤ 20
-most k n w h = go (leb k 20) refl
+pub most : (k n : ℕ) → Fewest 10 1 n k → n < 2 ^ 32 → k ≤ 10
+most k n w h = go (leb k 10) refl
   where
-    go : (b : Bool) → leb k 20 ≡ b → k ≤ 20
-    go true e = leb-true k 20 e
+    go : (b : Bool) → leb k 10 ≡ b → k ≤ 10
+    go true e = leb-true k 10 e
     go false e =
-        let over : 20 < k = leb-false k 20 e in
-        let below : 20 ≤ k - 1 = omega arith in
-        let power : 10 ^ 20 ≤ 10 ^ (k - 1) = pow-le-pow-right {n = 10} (omega arith) below in
+        let over : 10 < k = leb-false k 10 e in
+        let below : 10 ≤ k - 1 = omega arith in
+        let power : 10 ^ 10 ≤ 10 ^ (k - 1) = pow-le-pow-right {n = 10} (omega arith) below in
         absurd (omega (arith, w .2 (omega arith)))

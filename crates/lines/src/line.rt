@@ -56,9 +56,9 @@ fn put_name(out: &mut [u8], at: usize, method: Method) -> usize
 
 // Stores a space and a number.
 fn put_number(out: &mut [u8], at: usize, n: u32) -> usize
-    requires { ⌜ at + 21 ≤ length (now out) ⌝ }
+    requires { ⌜ at + 11 ≤ length (now out) ⌝ }
     ensures is { λ r. ⌜ Puts (now (out .entry)) at (32 ∷ decimalOf n) r (now (out .exit)) ⌝ }
-    ensures short { λ r. ⌜ r ≤ at + 21 ⌝ }
+    ensures short { λ r. ⌜ r ≤ at + 11 ⌝ }
 {
     let mut digits = [0u8; 20];
     let k = io::decimal(n as u64, &mut digits);
@@ -68,9 +68,9 @@ fn put_number(out: &mut [u8], at: usize, n: u32) -> usize
 
 // Stores the first `count` numbers of a list, each after a space.
 fn put_numbers(out: &mut [u8], start: usize, list: &[u32], count: usize) -> usize
-    requires { ⌜ (count ≤ length (now list)) × (start + count * 21 ≤ length (now out)) ⌝ }
+    requires { ⌜ (count ≤ length (now list)) × (start + count * 11 ≤ length (now out)) ⌝ }
     ensures is { λ r. ⌜ Puts (now (out .entry)) start (numbers (take count (now (list .entry)))) r (now (out .exit)) ⌝ }
-    ensures short { λ r. ⌜ r ≤ start + count * 21 ⌝ }
+    ensures short { λ r. ⌜ r ≤ start + count * 11 ⌝ }
 {
     let mut at = start;
     let mut i: usize = 0;
@@ -90,9 +90,9 @@ pub fn accepted(
     hits: u32,
     list: &[u32],
 ) -> usize
-    requires { ⌜ (hits ≤ length (now list)) × (at + 48 + hits * 21 ≤ length (now out)) ⌝ }
+    requires { ⌜ (hits ≤ length (now list)) × (at + 28 + hits * 11 ≤ length (now out)) ⌝ }
     ensures is { λ r. ⌜ Puts (now (out .entry)) at (acceptedLine method steps (take hits (now (list .entry)))) r (now (out .exit)) ⌝ }
-    ensures short { λ r. ⌜ r ≤ at + 48 + hits * 21 ⌝ }
+    ensures short { λ r. ⌜ r ≤ at + 28 + hits * 11 ⌝ }
 {
     let a = put_name(out, at, method);
     let b = put_number(out, a, steps);
@@ -104,9 +104,9 @@ pub fn accepted(
 
 // Stores the line of a refused call.
 pub fn refused(out: &mut [u8], at: usize, method: Method, number: u32) -> usize
-    requires { ⌜ at + 48 ≤ length (now out) ⌝ }
+    requires { ⌜ at + 28 ≤ length (now out) ⌝ }
     ensures is { λ r. ⌜ Puts (now (out .entry)) at (refusedLine method number) r (now (out .exit)) ⌝ }
-    ensures short { λ r. ⌜ r ≤ at + 48 ⌝ }
+    ensures short { λ r. ⌜ r ≤ at + 28 ⌝ }
 {
     let a = put_name(out, at, method);
     let b = put(out, a, b" refused");

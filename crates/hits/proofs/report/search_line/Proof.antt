@@ -2,17 +2,14 @@
 -- come from a law, since computing them counts each cell.
 -- Assumes nothing.
 use Prim.Native.Nat.{ℕ, _≤_}
-use mathlib.Core.Path.{_≡_, sym}
 use native.Mathlib.Omega.{arith}
-use lib.ListN.{length, replicate, length-replicate}
+use lib.ListN.{length, replicate}
 use borrow.Author.Needs.{needs}
 use Rattle.lines.proofs.Putting.{puts-as}
+use Rattle.hits.proofs.Enough.{cells, holds, held}
 use Rattle.hits.proofs.Answers.{Call, refused-printed, accepted-printed, fits}
 use Rattle.hits.proofs.report.search_line.Statement.{statement}
 use Rattle.hits.proofs.report.search_line.Tie as tie
-
-cells : (n : ℕ) → n ≡ length (replicate {A = ℕ} n 0)
-cells n = sym (length-replicate n 0)
 
 new-requires : tie.Need-new-requires
 new-requires c κs = search needs
@@ -47,14 +44,14 @@ made c =
     record {
       mark = _;
       fresh = c .before .before .before .new .ensures;
-      cells = omega (arith, cells 4096);
-      room = omega (arith, cells 4224);
+      cells = holds _ 4096 (search needs);
+      room = holds _ 4224 (omega arith);
       promise = c .search .ensures;
     }
 
 -- the list has still 4,096 cells
 few-hits : (c : tie.After-search) {hits : ℕ} → hits ≤ length (c .search .last .1 .1 .1 .1 .1 .1 .1 .0) → hits ≤ 4096
-few-hits c h = omega (arith, h, c .search .kept .1 .1 .1 .1 .1 .1 .1 .0, cells 4096)
+few-hits c h = held 4096 (c .search .last .1 .1 .1 .1 .1 .1 .1 .0) (c .search .kept .1 .1 .1 .1 .1 .1 .1 .0) h
 
 returns : tie.Need-returns
 returns c =

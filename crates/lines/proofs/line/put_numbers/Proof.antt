@@ -12,7 +12,7 @@ use Rattle.lines.proofs.line.put_numbers.Tie as tie
 
 abbrev Inv-loop : tie.InvT-loop
 Inv-loop out₀ start list count at₀ i₀ out at i =
-    ((i ≤ count) × ((length out ≡ length out₀) × (at ≤ start + i * 21))) × Puts out₀ start (numbers (take i list)) at out
+    ((i ≤ count) × ((length out ≡ length out₀) × (at ≤ start + i * 11))) × Puts out₀ start (numbers (take i list)) at out
 
 abbrev μ-loop : tie.MeasureT-loop
 μ-loop out₀ start list count at₀ i₀ out at i = count - i
