@@ -1,12 +1,13 @@
 #!/usr/bin/env python3
 """Runs the program `hits` on the inputs of tests/hits and on generated ones, good and malformed, and compares what it
-writes, byte for byte, with a naive implementation of document 01's rules. Prints one line with the number of checks, or
-the first differences and exits with 1.
+writes, byte for byte, with a naive implementation of document 01's rules; and where nothing can be written it holds the
+program to a line on standard error. Prints one line with the number of checks, or the first differences and exits with 1.
 
 usage: hits.py [PROGRAM]"""
 
 import os
 import random
+import signal
 import subprocess
 import sys
 import time
@@ -155,7 +156,7 @@ def named():
     yield "slash, the byte before 0", whole.replace(b"0", b"/", 1)
     yield "byte 176, a 0 with its top bit set", whole.replace(b"0", b"\xb0", 1)
     yield "space before", b" " + whole
-    yield "space behind the word", (v + " \n" + r + "\n").encode()
+    yield "space after the word", (v + " \n" + r + "\n").encode()
     yield "space inside", (v[:3] + " " + v[3:] + "\n" + r + "\n").encode()
     yield "tab", whole.replace(b"1", b"\t", 1)
     yield "byte order mark", b"\xef\xbb\xbf" + whole
@@ -170,7 +171,7 @@ def named():
     yield "longest, one byte after", pair("0" * 2048, "0" * 4096) + b"0"
     yield "longest, a line end after", pair("0" * 2048, "0" * 4096) + b"\n"
     yield "longest, without the last line end", pair("0" * 2048, "0" * 4096)[:-1]
-    yield "a million bytes behind good input", whole + b"1" * 1000000
+    yield "a million bytes after good input", whole + b"1" * 1000000
     yield "a million characters", b"0" * 1000000
     yield "a million line ends", b"\n" * 1000000
     yield "word 1, recording 4,096", pair("1", "1" * 4096)
@@ -221,7 +222,9 @@ def stored():
 
 
 def run(data):
-    return subprocess.run([PROGRAM], input=data, stdout=subprocess.PIPE, check=False).stdout
+    """What is written to standard output, and then what is written to standard error: nothing."""
+    p = subprocess.run([PROGRAM], input=data, stdout=subprocess.PIPE, stderr=subprocess.PIPE, check=False)
+    return p.stdout + p.stderr
 
 
 def run_in_pieces(data, cuts):
@@ -242,6 +245,42 @@ def run_in_pieces(data, cuts):
     return out
 
 
+def run_unwritten(data, out, action):
+    """Runs with an output that takes nothing, and an action for SIGPIPE; the exit status and standard error."""
+    p = subprocess.run(
+        [PROGRAM],
+        input=data,
+        stdout=out,
+        stderr=subprocess.PIPE,
+        preexec_fn=lambda: signal.signal(signal.SIGPIPE, action),
+        check=False,
+    )
+    return p.returncode, p.stderr
+
+
+def closed_pipe():
+    """The writing end of a pipe that nobody reads."""
+    reader, writer = os.pipe()
+    os.close(reader)
+    return writer
+
+
+def unwritten():
+    """A name, what came of a run whose output cannot be written, and what was to come of it."""
+    for data in [pair("0100110100", "011001001000100110100101000101001001"), pair("1", "1" * 4096), b""]:
+        with open("/dev/full", "wb") as full:
+            got = run_unwritten(data, full, signal.SIG_DFL)
+        yield "full disk", got, (0, b"hits: cannot write: No space left on device\n")
+        for name, action, want in [
+            ("closed pipe, signal ignored", signal.SIG_IGN, (0, b"hits: cannot write: Broken pipe\n")),
+            ("closed pipe", signal.SIG_DFL, (-signal.SIGPIPE, b"")),
+        ]:
+            out = closed_pipe()
+            got = run_unwritten(data, out, action)
+            os.close(out)
+            yield name, got, want
+
+
 def main():
     global PROGRAM
     if len(sys.argv) > 1:
@@ -249,12 +288,14 @@ def main():
     rng = random.Random(20261115)
     checks, wrong = 0, []
 
-    def compare(name, data, got):
+    def same(name, got, want):
         nonlocal checks
         checks += 1
-        want = expected(data)
         if got != want:
-            wrong.append("%s: expected %r, found %r" % (name, want[:120], got[:120]))
+            wrong.append("%s: expected %.120r, found %.120r" % (name, want, got))
+
+    def compare(name, data, got):
+        same(name, got, expected(data))
 
     for source in [stored(), named(), drawn(rng), damaged(rng)]:
         for name, data in source:
@@ -265,6 +306,8 @@ def main():
     longest = pair("1" * 2048, "01" * 2048)
     for data in [longest, longest + b"\n", longest[:-1]]:
         compare("long, in pieces", data, run_in_pieces(data, [1, 2048, 2049, 4096, 6144]))
+    for name, got, want in unwritten():
+        same(name, got, want)
     if wrong:
         print("hits.py: %d of %d checks differ" % (len(wrong), checks))
         print("\n".join(wrong[:10]))

@@ -1,6 +1,7 @@
--- Cells for all: with a cell for each place and a scratch that a search takes, more cells change nothing.
+-- Cells for all: with a cell for each place and a scratch that a search takes, more cells change nothing. And laws of the
+-- arrays that are lent.
 -- Assumes nothing.
-use Prim.Native.Nat.{ℕ, zero, suc, _+_, _-_, _^_, _≤_, _<_}
+use Prim.Native.Nat.{ℕ, zero, suc, _+_, _-_, _≤_, _<_}
 use mathlib.Core.Path.{_≡_, refl, sym, ap, _∙_}
 use mathlib.Core.Bool.{false}
 use mathlib.Core.List.{List}
@@ -22,7 +23,8 @@ use Rattle.search.specs.Verdict.{Request, Verdict, refused, accepted, rows, All
 use Rattle.search.proofs.Verdict.{refused-iff, accepted-fail, accepted-iff}
 use Rattle.hits.specs.Printed.{asked}
 
--- the length of an array: computing it counts each cell
+-- ---- arrays: their lengths by a law, since computing them counts each cell
+
 pub cells : (n : ℕ) → n ≡ length (replicate {A = ℕ} n 0)
 cells n = sym (length-replicate n 0)
 
@@ -31,6 +33,8 @@ holds k n h = rw (length-replicate {A = ℕ} n 0) h
 
 pub held : {k : ℕ} (n : ℕ) (l : List ℕ) → length l ≡ length (replicate {A = ℕ} n 0) → k ≤ length l → k ≤ n
 held {k} n l e h = rw (e ∙ length-replicate {A = ℕ} n 0) at h
+
+-- ---- cells
 
 module _ (x : Method) (t : Packed) (w : Pattern) (fit : unfit x (w .count) ≡ false) where
   -- a step finds no more than the places that it decides

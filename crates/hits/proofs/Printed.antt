@@ -1,7 +1,7 @@
 -- What is printed: `bad input` just for input that is not good; else the four lines, where each way that takes the word
 -- lists all occurrences, and the others are refused with number 5.
 -- Assumes nothing.
-use Prim.Native.Nat.{ℕ, _+_, _-_, _^_, _≤_, _<_}
+use Prim.Native.Nat.{ℕ, _+_, _-_, _^_, _≤_}
 use mathlib.Core.Path.{_≡_, refl, sym, ap, _∙_}
 use mathlib.Core.Bool.{true, false}
 use mathlib.Core.Logic.{_↔_}
@@ -15,7 +15,7 @@ use Rattle.rules.specs.declared.Method.the-variants.{Plain, Hash, Skip, Wide}
 use Rattle.rules.specs.Pattern.{Pattern}
 use Rattle.rules.specs.Occurrence.{places, Occurs, occurrences}
 use Rattle.rules.specs.Step.{unfit}
-use Rattle.rules.specs.Machine.{Ending, done, spent, full, Run, run, Left}
+use Rattle.rules.specs.Machine.{Ending, done, spent, full, Run, Left}
 use Rattle.rules.proofs.Occurrence.{occurs-bits, occurrences-rising, occurrences-exactly, occurrences-length}
 use Rattle.rules.proofs.Machine.{left}
 use Rattle.search.specs.Verdict.{Verdict, refused, accepted, rows, judge, AllFail, machine, verdict, scratchCells}

@@ -6,6 +6,7 @@ use mathlib.Core.List.{List, map}
 use native.Mathlib.Omega.{arith}
 use lib.ListN.{length, take, drop, length-map, length-take, length-drop}
 use Rattle.bits.specs.Packed.{Packed}
+use Rattle.rules.specs.declared.Method.{Method}
 use Rattle.rules.specs.declared.Method.the-variants.{Plain, Hash, Skip, Wide}
 use Rattle.rules.specs.Pattern.{Pattern}
 use Rattle.lines.specs.declared.parse.Input.{Input}
@@ -16,12 +17,13 @@ use Rattle.lines.specs.Inner.{Puts, inputIn}
 use Rattle.lines.proofs.Putting.{puts-then}
 use Rattle.hits.specs.Printed.{searchLine, fourLines, printedOf, printed}
 
--- the four lines, one after another
-pub four-stored : (t : Packed) (w : Pattern) {a b c d e : List ℕ} {i j k l : ℕ}
-    → Puts a 0 (searchLine t w Plain) i b → Puts b i (searchLine t w Hash) j c → Puts c j (searchLine t w Skip) k d → Puts d k (searchLine t w Wide) l e
-    → Puts a 0 (fourLines t w) l e
+-- the four lines, one after another, in the order of the ways
+pub four-stored : (t : Packed) (w : Pattern) (x y z u : Method) {a b c d e : List ℕ} {i j k l : ℕ}
+    → Puts a 0 (searchLine t w x) i b → Puts b i (searchLine t w y) j c → Puts c j (searchLine t w z) k d → Puts d k (searchLine t w u) l e
+    → x ≡ Plain → y ≡ Hash → z ≡ Skip → u ≡ Wide → Puts a 0 (fourLines t w) l e
 unfolding fourLines
-four-stored t w p q r s = puts-then p (puts-then q (puts-then r s))
+four-stored t w x y z u p q r s plain hash skip wide =
+    rw (plain, hash, skip, wide) at (puts-then p (puts-then q (puts-then r s)))
 
 -- the bytes that are packed from the input's two lines, and the characters' numbers, give the lines of the bits
 pub packed-printed : (s : List ℕ) (m n : ℕ) {word text : List ℕ} → m + n + 2 ≡ length s → word ≡ packed (map bitOf (take m s))

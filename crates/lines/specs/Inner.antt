@@ -1,8 +1,8 @@
 -- What the functions promise each other: what they found in the input, and what they stored.
-use Prim.Native.Nat.{ℕ, zero, suc, _+_, _-_, _*_, _≤_, _<_}
+use Prim.Native.Nat.{ℕ, _+_, _-_, _≤_, _<_}
 use mathlib.Core.Path.{_≡_}
 use mathlib.Core.List.{List, _++_, map}
-use lib.ListN.{length, getD, take, drop}
+use lib.ListN.{length, take, drop}
 use Rattle.io.specs.Counts.{Counts}
 use Rattle.rules.specs.declared.Method.{Method}
 use Rattle.lines.specs.Line.{nameOf}

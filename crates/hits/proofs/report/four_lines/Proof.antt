@@ -1,5 +1,6 @@
 -- `hits::report::four_lines` meets its contract: each line is stored where the one before it ends.
 -- Assumes nothing.
+use mathlib.Core.Path.{refl}
 use native.Mathlib.Omega.{arith}
 use borrow.Author.Needs.{needs}
 use Rattle.hits.proofs.Reporting.{four-stored}
@@ -27,7 +28,7 @@ returns c =
     let third = c .before .before .before .before .before .before .search-line3 .ensures in
     let second = c .before .before .before .before .before .before .before .before .before .before .search-line2 .ensures in
     let first = c .before .before .before .before .before .before .before .before .before .before .before .before .before .before .search-line .ensures in
-    (four-stored _ _ (first .0) (second .0) (third .0) (d .0), omega arith)
+    (four-stored _ _ _ _ _ _ (first .0) (second .0) (third .0) (d .0) refl refl refl refl, omega arith)
 
 pub four-lines-spec : {M : Type 1} → statement M
 four-lines-spec =

@@ -2,7 +2,7 @@
 -- Assumes nothing.
 use native.Mathlib.Omega.{arith}
 use borrow.Author.Needs.{needs}
-use Rattle.lines.specs.declared.parse.Input.the-variants.{Lines, Bad}
+use Rattle.lines.specs.declared.parse.Input.the-variants.{Bad}
 use Rattle.lines.proofs.Putting.{puts-as, front-of}
 use Rattle.hits.specs.Printed.{printedOf}
 use Rattle.hits.proofs.Reporting.{input-printed}
