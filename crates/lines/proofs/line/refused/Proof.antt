@@ -2,7 +2,7 @@
 -- Assumes nothing.
 use native.Mathlib.Omega.{arith}
 use lib.ListN.{length-set}
-use Rattle.lines.proofs.Putting.{puts-then, puts-byte, refused-parts}
+use Rattle.lines.proofs.Putting.{puts-as, puts-then, puts-byte, refused-parts}
 use Rattle.lines.proofs.line.refused.Statement.{statement}
 use Rattle.lines.proofs.line.refused.Tie as tie
 
@@ -31,7 +31,7 @@ returns : tie.Need-returns
 returns c =
     let n = c .before .before .put-number in
     let p = puts-then (c .before .before .before .before .before .before .before .before .before .before .before .put-name .ensures .0) (puts-then (c .before .before .before .before .before .before .put .ensures) (puts-then (n .ensures .0) (puts-byte _ _ 10 (omega arith)))) in
-    (rw (refused-parts _ _) at p, omega arith)
+    (puts-as (refused-parts _ _) p, omega arith)
 
 pub refused-spec : {M : Type 1} → statement M
 refused-spec = tie.close (tie.spec put-name-requires slice-aggregate-put put-requires put-number-requires slice-write-out add-result same-length returns)
