@@ -29,9 +29,11 @@ pub fn fill32(s: &mut [u32], x: usize) {
     }
 }
 
-pub fn fill64(s: &mut [u64], x: usize) {
+// The first `count` cells, or all.
+pub fn fill64(s: &mut [u64], count: usize, x: usize) {
+    let end = least_of(count, s.len());
     let mut i: usize = 0;
-    while i < s.len() {
+    while i < end {
         s[i] = content(x, i) as u64;
         i += 1;
     }

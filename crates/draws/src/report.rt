@@ -21,3 +21,19 @@ pub fn kind_line(names: &[u8], counts: &[usize], kind: usize) -> usize {
     );
     count
 }
+
+// How many disagree of one case, which is good or not. A case that is not good is printed, by its kind's name and its
+// number, so that it can be found again.
+pub fn disagreement(names: &[u8], counts: &[usize], kind: usize, case: usize, good: bool) -> usize {
+    if good {
+        return 0;
+    }
+    let k = kind % 16;
+    io::write_all(STDOUT_FILENO, b"disagreement: ");
+    io::write_all(
+        STDOUT_FILENO,
+        packed::part(names, 32 * k, draw::entry(counts, 2 * k)),
+    );
+    line(b"case ", case);
+    1
+}

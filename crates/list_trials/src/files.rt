@@ -191,36 +191,44 @@ const SIZES: [usize; 12] = [3, 1, 3, 1, 3, 1, 0, 4, 3, 3, 3, 1];
 
 // Damages the file of so many bytes, or leaves it; the answer is its bytes then.
 fn damaged(s: &mut [u8], size: usize, x: usize) -> usize {
-    let class = draw(x, 7, 6);
+    let class = draw(x, 8, 6);
     let at = if class < 3 {
-        plus(FILE, draw(x, 8, size))
+        plus(FILE, draw(x, 9, size))
     } else {
         NOWHERE
     };
-    put8(s, at, byte(choose(&DAMAGE, draw(x, 9, 6), x, 10)));
-    minus(plus(size, choose(&SIZES, class, x, 8)), 3)
+    put8(s, at, byte(choose(&DAMAGE, draw(x, 10, 6), x, 11)));
+    minus(plus(size, choose(&SIZES, class, x, 12)), 3)
 }
 
-// Cells for what is read, too few or enough: up to 12 once in four draws.
-const CELLS: [usize; 4] = [0, 13, 16, 1];
+// Cells for what is read, too few or enough: up to 12 once in four draws, or 16 to 24.
+const CELLS: [usize; 4] = [0, 13, 16, 9];
+
+// The target of the list's file of so many bytes, out of four: any few bytes, about those that it needs, or many more.
+fn target(size: usize, k: usize, x: usize) -> usize {
+    let class = draw(x, 5, 4);
+    if class == 0 {
+        return draw(x, 6, plus(k, 6));
+    }
+    if class == 1 {
+        return least_of(minus(plus(size, draw(x, 7, 4)), 2), FILE);
+    }
+    FILE
+}
 
 // A case over a buffer of drawn bytes: kind 0 writes a drawn list, and 1 reads a file: that of a drawn list, damaged or not,
 // or, once in three draws, a small count and drawn bytes.
 pub(crate) fn drawn(kind: usize, x: usize, s: &mut [u8; 813]) -> bool {
     let mut list = [0u32; 24];
-    let k = draw(x, 0, 25);
+    let k = draw(x, 0, if kind == 0 { 25 } else { 13 });
     draw_list(&mut list, k, x);
     if kind == 0 {
-        let room = if draw(x, 5, 3) == 0 {
-            draw(x, 6, plus(k, 6))
-        } else {
-            FILE
-        };
-        let got = written(cells::part32(&list, k), room, x, s);
+        let size = codec::encode(cells::part32(&list, k), s);
+        let got = written(cells::part32(&list, k), target(size, k, x), x, s);
         return got.good;
     }
-    let size = draw_file(cells::part32(&list, k % 13), x, s);
-    let room = choose(&CELLS, draw(x, 11, 4), x, 12);
+    let size = draw_file(cells::part32(&list, k), x, s);
+    let room = choose(&CELLS, draw(x, 16, 4), x, 17);
     let got = read(packed::part(s, FILE, size), room, x, &mut list);
     got.good
 }

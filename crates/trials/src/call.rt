@@ -16,6 +16,9 @@ use search::Stop;
 // Every step that there is.
 pub(crate) const ALL: usize = 4294967295;
 
+// The cells of scratch that there are: a call is lent 4,224, or some more, or too few.
+pub(crate) const SCRATCH: usize = 4230;
+
 // What a call is given: n bits of text in `text` bytes, m bits of pattern in `word` bytes, the method by its number, mark
 // and budget, and how many cells of the list and of the scratch are lent.
 pub(crate) struct Call {
@@ -106,14 +109,17 @@ fn verdict(c: Call, x: usize, outcome: Outcome, s: &[u8], list: &[u32], scratch:
     run
 }
 
-// The call of both, on a list of known content; the scratch after the first 4,224 cells has one too.
+// The call of both, on a list of known content. The scratch comes with what the calls before left in its first 4,224
+// cells, and a known content after them; where the call is to be refused, all of it is known.
 pub(crate) fn judged(
     c: Call,
     x: usize,
     s: &[u8],
     list: &mut [u32],
-    scratch: &mut [u64; 4226],
+    scratch: &mut [u64; SCRATCH],
 ) -> Run {
+    let known = if 0 < naive::refusal(c) { SCRATCH } else { 0 };
+    cells::fill64(scratch, known, x);
     cells::fill32(list, x);
     let outcome = made(c, s, list, scratch);
     verdict(c, x, outcome, s, list, scratch)
@@ -121,7 +127,7 @@ pub(crate) fn judged(
 
 // A single call.
 pub(crate) fn single(c: Call, x: usize, s: &[u8], list: &mut [u32]) -> Run {
-    let mut scratch = [0u64; 4226];
-    cells::fill64(&mut scratch, x);
+    let mut scratch = [0u64; SCRATCH];
+    cells::fill64(&mut scratch, SCRATCH, x);
     judged(c, x, s, list, &mut scratch)
 }

@@ -1,13 +1,12 @@
-// Drawn calls of the search: a method whole, a list of calls, and the edges of the refusals.
+// Drawn calls of the search: a method whole, the text and the pattern of a list of calls, and the edges of the refusals.
+// Each choice has a draw of its own, by its index.
 use crate::call::ALL;
 use crate::call::Call;
-use crate::call::judged;
+use crate::calls::joined;
 use crate::naive;
-use draws::cells;
 use draws::draw::choose;
 use draws::draw::draw;
 use draws::draw::entry;
-use draws::draw::next;
 use draws::number::ceiling;
 use draws::number::least_of;
 use draws::number::minus;
@@ -47,8 +46,16 @@ const PATTERNS: [usize; 28] = [
     40,
 ];
 
-pub(crate) fn pattern_length(x: usize) -> usize {
-    choose(&PATTERNS, draw(x, 0, 40), x, 1)
+// A length that is too short for the method grows by its shortest one, but once in eight draws.
+pub(crate) fn pattern_length(x: usize, way: usize) -> usize {
+    let m = choose(&PATTERNS, draw(x, 0, 40), x, 1);
+    let least = naive::shortest(way);
+    let more = if (m < least) & (0 < draw(x, 2, 8)) {
+        least
+    } else {
+        0
+    };
+    plus(m, more)
 }
 
 // Lengths of the text of every class, out of 32, and 1. The first two have whole bytes or a bit more; the next two are any
@@ -76,9 +83,10 @@ const TEXTS: [usize; 20] = [
     200,
 ];
 
-fn text_length(x: usize, m: usize) -> usize {
-    let class = draw(x, 2, 32);
-    let more = choose(&TEXTS, class, x, 3);
+// The classes after `last` are that one.
+fn text_length(x: usize, m: usize, last: usize) -> usize {
+    let class = least_of(draw(x, 3, 32), last);
+    let more = choose(&TEXTS, class, x, 4);
     if class < 2 {
         return plus(more / 8 * 8, class);
     }
@@ -99,84 +107,39 @@ pub(crate) fn repeat(s: &mut [u8], at: usize, k: usize, period: usize) {
 
 // Text and pattern in a buffer of drawn bits stay random or become repetitive; the pattern is often a part of the text.
 fn draw_bits(s: &mut [u8], n: usize, m: usize, x: usize) {
-    let period = choose(&PERIODS, draw(x, 4, 3), x, 5);
-    repeat(s, TEXT_BIT, n, period);
-    if draw(x, 6, 4) == 0 {
-        repeat(s, 0, m, period);
+    repeat(s, TEXT_BIT, n, choose(&PERIODS, draw(x, 5, 3), x, 6));
+    if draw(x, 7, 4) == 0 {
+        repeat(s, 0, m, choose(&PERIODS, draw(x, 8, 3), x, 9));
     } else {
-        packed::copy(s, plus(TEXT_BIT, draw(x, 7, naive::places(n, m))), 0, m);
+        packed::copy(s, plus(TEXT_BIT, draw(x, 10, naive::places(n, m))), 0, m);
     }
 }
 
-// The whole search over a drawn text and pattern, with a cell for each place and two more. Text and pattern have just the
-// bytes that they need or up to two more.
+// The whole search over a drawn text and pattern, with a cell for each place or up to two more. Text and pattern have just
+// the bytes that they need or up to two more, and the scratch up to six cells more.
 fn whole(way: usize, x: usize, s: &mut [u8]) -> Call {
-    let m = pattern_length(x);
-    let n = text_length(x, m);
+    let m = pattern_length(x, way);
+    // a list of calls has a long text, so that it goes far
+    let n = text_length(x, m, if way == 4 { 8 } else { 9 });
     draw_bits(s, n, m, x);
+    // once in four draws a bit of the pattern becomes another bit, so that it may almost occur
+    packed::copy(s, draw(x, 15, 2048), draw(x, 16, m), draw(x, 17, 4) / 3 % 2);
     Call {
         n: n,
-        text: plus(ceiling(n), draw(x, 8, 3)),
+        text: plus(ceiling(n), draw(x, 11, 3)),
         m: m,
-        word: plus(ceiling(m), draw(x, 9, 3)),
+        word: plus(ceiling(m), draw(x, 12, 3)),
         way: way,
         mark: 0,
         budget: ALL,
-        room: plus(naive::places(n, m), 2),
-        scratch: 4226,
+        room: plus(naive::places(n, m), draw(x, 13, 3)),
+        scratch: plus(4224, draw(x, 14, 7)),
     }
 }
 
-const BUDGETS: [usize; 12] = [0, 1, 1, 1, 2, 1, 3, 1, ALL, 1, 0, 60];
-
-// The next call of a list, with its own method, budget and cells. The method takes the pattern. A single call stays.
-fn next_call(c: Call, x: usize, calls: usize) -> Call {
-    let mut call = c;
-    if calls == 1 {
-        return call;
-    }
-    let way = draw(x, 0, 4);
-    call.way = if c.m < naive::shortest(way) { 3 } else { way };
-    call.budget = choose(&BUDGETS, draw(x, 1, 8), x, 2);
-    call.room = draw(x, 3, 20);
-    call
-}
-
-// So many calls from mark to mark, with one scratch. Each is lent the cells after what the calls before it wrote, so that the list holds all
-// of it, joined: every occurrence from the first mark on to the last.
-fn joined(first: Call, calls: usize, x: usize, s: &[u8], list: &mut [u32]) -> bool {
-    let mut scratch = [0u64; 4226];
-    cells::fill64(&mut scratch, x);
-    let mut c = first;
-    let mut y = x;
-    let mut good = true;
-    let mut count: usize = 0;
-    let mut left = calls;
-    while 0 < left {
-        y = next(y);
-        c = next_call(c, y, calls);
-        let a = least_of(count, list.len());
-        let run = judged(c, x, s, &mut list[a..], &mut scratch);
-        good = good & run.good;
-        count = plus(count, run.hits);
-        c.mark = run.mark;
-        left -= 1;
-    }
-    good & every(first, c.mark, count, s, list)
-}
-
-// Whether so many cells hold every occurrence from a call's mark on to the last mark.
-fn every(first: Call, last: usize, count: usize, s: &[u8], list: &[u32]) -> bool {
-    let mut c = first;
-    c.way = 0;
-    c.budget = minus(last, first.mark);
-    c.room = count;
-    let all = naive::search(c, s, list);
-    all.good & (all.hits == count) & (all.mark == last)
-}
-
-// The edges: bits of the text, bits of the pattern, bytes of the pattern.
-const EDGES: [usize; 20] = [
+// The edges: bits of the text, bits of the pattern, bytes of the pattern, and the mark, on top of the number of places
+// less 1.
+const EDGES: [usize; 24] = [
     8,
     9,
     16,
@@ -197,10 +160,14 @@ const EDGES: [usize; 20] = [
     2,
     256,
     257,
+    0,
+    1,
+    2,
+    ALL,
 ];
 
 // How many rows there are.
-pub(crate) const ROWS: usize = 24000;
+pub(crate) const ROWS: usize = 32000;
 
 // Each refusal at its edges, with the neighbours that are accepted, alone and together: the row's number tells which.
 fn row(edges: &[usize], i: usize) -> Call {
@@ -212,10 +179,16 @@ fn row(edges: &[usize], i: usize) -> Call {
         m: m,
         word: entry(edges, 15 + i / 200 % 5),
         way: i / 1000 % 4,
-        mark: minus(plus(naive::places(n, m), i / 4000 % 3), 1),
+        mark: least_of(
+            minus(
+                plus(naive::places(n, m), entry(edges, 20 + i / 4000 % 4)),
+                1,
+            ),
+            ALL,
+        ),
         budget: ALL,
         room: 20,
-        scratch: 4224 - i / 12000 % 2,
+        scratch: 4224 - i / 16000 % 2,
     }
 }
 

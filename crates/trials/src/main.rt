@@ -1,6 +1,7 @@
 // Program `trials`: drawn calls of every kind against a naive search, and the named cases of document 01. It prints how many
-// cases each kind has, and the count of disagreements.
+// cases each kind has, each case that disagrees, and their count.
 mod call;
+mod calls;
 mod drawn;
 mod naive;
 mod named;
@@ -27,14 +28,16 @@ fn one(kind: usize, i: usize, x: usize) -> bool {
     }
 }
 
-// So many cases of a kind: how many disagree.
-fn many(kind: usize, count: usize) -> usize {
+// The cases of a kind: how many disagree. Each of these is printed after the kind's line.
+fn many(names: &[u8], counts: &[usize], kind: usize) -> usize {
+    let count = report::kind_line(names, counts, kind);
     let mut wrong: usize = 0;
     let mut x = 88172645463325252 + kind % 16;
     let mut i: usize = 0;
     while i < count {
         x = draw::next(x);
-        wrong = number::plus(wrong, !one(kind, i, x) as usize);
+        let good = one(kind, i, x);
+        wrong = number::plus(wrong, report::disagreement(names, counts, kind, i, good));
         i += 1;
     }
     wrong
@@ -77,8 +80,7 @@ fn main() {
     let mut wrong: usize = 0;
     let mut kind: usize = 0;
     while kind < 9 {
-        let count = report::kind_line(&NAMES, &COUNTS, kind);
-        wrong = number::plus(wrong, many(kind, count));
+        wrong = number::plus(wrong, many(&NAMES, &COUNTS, kind));
         kind += 1;
     }
     report::line(b"disagreements ", wrong);

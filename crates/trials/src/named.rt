@@ -139,7 +139,7 @@ fn search(i: usize, x: usize, s: &mut [u8; 813], list: &mut [u32; 4400]) -> bool
         mark: 0,
         budget: r.2,
         room: r.3,
-        scratch: 4226,
+        scratch: 4230,
     };
     let run = call::single(c, x, s, list);
     run.good

@@ -36,8 +36,13 @@ const COUNTS: [usize; 4] = [1073741820, 9, 0, 101];
 pub(crate) fn eight_bits(x: usize, s: &mut [u8; 813]) -> bool {
     let n = choose(&COUNTS, draw(x, 0, 50), x, 1);
     let short = least_of(n, 100);
-    let p = draw(x, 2, plus(short, 3));
-    let a = plus(ceiling(short), draw(x, 3, 3));
+    // about the greatest number of 32 bits, once in 16
+    let p = if draw(x, 2, 16) == 0 {
+        plus(4294967280, draw(x, 3, 16))
+    } else {
+        draw(x, 4, plus(short, 3))
+    };
+    let a = minus(plus(ceiling(short), draw(x, 5, 4)), 1);
     let why = naive::refusal(Call {
         n: n,
         text: a,
@@ -83,9 +88,9 @@ pub(crate) fn hash(s: &[u8], m: usize, b: usize) -> bool {
 
 // The value is drawn, or a part of the pattern.
 pub(crate) fn drawn_hash(x: usize, s: &mut [u8; 813]) -> bool {
-    let m = minus(plus(pattern_length(x), draw(x, 2, 4)), 1);
-    repeat(s, 0, m, draw(x, 3, 12));
-    repeat(s, TEXT_BIT, 8, draw(x, 4, 3));
-    packed::copy(s, draw(x, 5, plus(m, 1)), TEXT_BIT, draw(x, 6, 2) % 2 * 8);
-    hash(s, m, minus(plus(ceiling(m), draw(x, 7, 4)), 1))
+    let m = minus(plus(pattern_length(x, 1), draw(x, 3, 4)), 1);
+    repeat(s, 0, m, draw(x, 4, 12));
+    repeat(s, TEXT_BIT, 8, draw(x, 5, 3));
+    packed::copy(s, draw(x, 6, plus(m, 1)), TEXT_BIT, draw(x, 7, 2) % 2 * 8);
+    hash(s, m, minus(plus(ceiling(m), draw(x, 8, 4)), 1))
 }

@@ -14,14 +14,11 @@ abbrev μ-loop : tie.MeasureT-loop
 loop-holds : tie.Need-loop-holds Inv-loop μ-loop
 loop-holds c = search needs
 
-slice-aggregate-kind-line : tie.Need-slice-aggregate-kind-line Inv-loop μ-loop
-slice-aggregate-kind-line c = search needs
+slice-aggregate-many : tie.Need-slice-aggregate-many Inv-loop μ-loop
+slice-aggregate-many c = search needs
 
-slice-aggregate-kind-line-2 : tie.Need-slice-aggregate-kind-line-2 Inv-loop μ-loop
-slice-aggregate-kind-line-2 c = search needs
-
-kind-line-requires : tie.Need-kind-line-requires Inv-loop μ-loop
-kind-line-requires c κs = search needs
+slice-aggregate-many-2 : tie.Need-slice-aggregate-many-2 Inv-loop μ-loop
+slice-aggregate-many-2 c = search needs
 
 many-requires : tie.Need-many-requires Inv-loop μ-loop
 many-requires c κs = search needs
@@ -54,9 +51,8 @@ main-spec =
     Inv-loop
     μ-loop
     loop-holds
-    slice-aggregate-kind-line
-    slice-aggregate-kind-line-2
-    kind-line-requires
+    slice-aggregate-many
+    slice-aggregate-many-2
     many-requires
     plus-requires
     add-kind

@@ -6,10 +6,13 @@ use Rattle.trials.proofs.many.Statement.{statement}
 use Rattle.trials.proofs.many.Tie as tie
 
 abbrev Inv-loop : tie.InvT-loop
-Inv-loop kind count wrong₀ x₀ i₀ wrong x i = Unit
+Inv-loop names counts kind count wrong₀ x₀ i₀ wrong x i = Unit
 
 abbrev μ-loop : tie.MeasureT-loop
-μ-loop kind count wrong₀ x₀ i₀ wrong x i = count - i
+μ-loop names counts kind count wrong₀ x₀ i₀ wrong x i = count - i
+
+kind-line-requires : tie.Need-kind-line-requires Inv-loop μ-loop
+kind-line-requires c κs = search needs
 
 add-x : tie.Need-add-x Inv-loop μ-loop
 add-x c = search needs
@@ -23,8 +26,8 @@ next-requires c κs = search needs
 one-requires : tie.Need-one-requires Inv-loop μ-loop
 one-requires c κs = search needs
 
-cast-plus : tie.Need-cast-plus Inv-loop μ-loop
-cast-plus c = search needs
+disagreement-requires : tie.Need-disagreement-requires Inv-loop μ-loop
+disagreement-requires c κs = search needs
 
 plus-requires : tie.Need-plus-requires Inv-loop μ-loop
 plus-requires c κs = search needs
@@ -47,11 +50,12 @@ many-spec =
     (tie.spec
     Inv-loop
     μ-loop
+    kind-line-requires
     add-x
     loop-holds
     next-requires
     one-requires
-    cast-plus
+    disagreement-requires
     plus-requires
     add-i
     loop-less

@@ -1,17 +1,17 @@
--- `trials::drawn::joined` is safe and ends. The calls that are left get fewer; the length of the list stays.
+-- `trials::calls::joined` is safe and ends. The calls that are left get fewer; the length of the list stays.
 -- Assumes nothing.
 use mathlib.Core.Path.{_≡_}
 use lib.ListN.{length}
 use borrow.Author.Needs.{needs}
-use Rattle.trials.proofs.drawn.joined.Statement.{statement}
-use Rattle.trials.proofs.drawn.joined.Tie as tie
+use Rattle.trials.proofs.calls.joined.Statement.{statement}
+use Rattle.trials.proofs.calls.joined.Tie as tie
 
 abbrev Inv-loop : tie.InvT-loop
-Inv-loop first calls x s list₀ scratch₀ c₀ y₀ good₀ count₀ left₀ list scratch c y good count left =
+Inv-loop first calls x s list₀ scratch₀ c₀ t₀ left₀ list scratch c t left =
     length list ≡ length list₀
 
 abbrev μ-loop : tie.MeasureT-loop
-μ-loop first calls x s list₀ scratch₀ c₀ y₀ good₀ count₀ left₀ list scratch c y good count left = left
+μ-loop first calls x s list₀ scratch₀ c₀ t₀ left₀ list scratch c t left = left
 
 slice-aggregate-fill64 : tie.Need-slice-aggregate-fill64 Inv-loop μ-loop
 slice-aggregate-fill64 c = search needs
@@ -21,9 +21,6 @@ fill64-requires c κs = search needs
 
 loop-holds : tie.Need-loop-holds Inv-loop μ-loop
 loop-holds c = search needs
-
-next-requires : tie.Need-next-requires Inv-loop μ-loop
-next-requires c κs = search needs
 
 next-call-requires : tie.Need-next-call-requires Inv-loop μ-loop
 next-call-requires c κs = search needs
@@ -46,8 +43,8 @@ part-judged-end c = search needs
 judged-requires : tie.Need-judged-requires Inv-loop μ-loop
 judged-requires c κs = search needs
 
-plus-requires : tie.Need-plus-requires Inv-loop μ-loop
-plus-requires c κs = search needs
+added-requires : tie.Need-added-requires Inv-loop μ-loop
+added-requires c κs = search needs
 
 sub-left : tie.Need-sub-left Inv-loop μ-loop
 sub-left c = search needs
@@ -58,8 +55,8 @@ loop-less c = search needs
 loop-again : tie.Need-loop-again Inv-loop μ-loop
 loop-again c = search needs
 
-every-requires : tie.Need-every-requires Inv-loop μ-loop
-every-requires c κs = search needs
+claimed-requires : tie.Need-claimed-requires Inv-loop μ-loop
+claimed-requires c κs = search needs
 
 same-length : tie.Need-same-length Inv-loop μ-loop
 same-length c = search needs
@@ -76,7 +73,6 @@ joined-spec =
     slice-aggregate-fill64
     fill64-requires
     loop-holds
-    next-requires
     next-call-requires
     least-of-requires
     mul-judged
@@ -84,10 +80,10 @@ joined-spec =
     part-judged-start
     part-judged-end
     judged-requires
-    plus-requires
+    added-requires
     sub-left
     loop-less
     loop-again
-    every-requires
+    claimed-requires
     same-length
     returns)

@@ -1,0 +1,115 @@
+// Lists of calls from mark to mark, refused ones too, and the one claim about the whole list (demand 3).
+use crate::call::ALL;
+use crate::call::Call;
+use crate::call::SCRATCH;
+use crate::call::judged;
+use crate::naive;
+use crate::naive::Run;
+use draws::cells;
+use draws::draw::choose;
+use draws::draw::draw;
+use draws::number::least_of;
+use draws::number::minus;
+use draws::number::plus;
+
+// Budgets of every class, out of 12: none, every step, some, and very few, so that a list of calls goes far.
+const BUDGETS: [usize; 10] = [0, 1, ALL, 1, 0, 60, 0, 60, 1, 3];
+
+// Cells of the list of every class, out of 8: none, one, more than there are places, and a few.
+const ROOMS: [usize; 8] = [0, 1, 1, 1, 2050, 20, 0, 20];
+
+// Cells of the scratch of every class, out of 16: too few, one too few, just enough, and enough.
+const SCRATCHES: [usize; 8] = [0, 4224, 4223, 1, 4224, 1, 4224, 7];
+
+// The next call of a list, after which so many are left with it, has a method, a budget, cells and a scratch of its own. A
+// method that does not take the pattern is refused once in four draws; else the call is a plain or a wide one. A
+// single call stays.
+fn next_call(c: Call, x: usize, left: usize, calls: usize) -> Call {
+    let mut call = c;
+    if calls == 1 {
+        return call;
+    }
+    // what this call draws
+    let d = left % 16 * 16 + 16;
+    let way = draw(x, d, 4);
+    let unfit = c.m < naive::shortest(way);
+    call.way = if unfit & (0 < draw(x, d + 1, 4)) {
+        draw(x, d + 2, 2) % 2 * 3
+    } else {
+        way
+    };
+    call.budget = choose(&BUDGETS, draw(x, d + 3, 12), x, d + 4);
+    call.room = choose(&ROOMS, draw(x, d + 5, 8), x, d + 6);
+    call.scratch = choose(&SCRATCHES, draw(x, d + 7, 16), x, d + 8);
+    call
+}
+
+// What the calls of a list come to: occurrences written, steps, calls that said full, the last mark, how the last accepted
+// call stopped, which is 3 where none was accepted, and whether each did what it is to do.
+struct Total {
+    hits: usize,
+    steps: usize,
+    fulls: usize,
+    mark: usize,
+    stop: usize,
+    good: bool,
+}
+
+// A call more. None makes more steps than its budget, and one that said spent made them all.
+fn added(t: Total, c: Call, run: Run) -> Total {
+    let stop = if run.refusal == 0 { run.stop } else { t.stop };
+    let kept = (run.steps <= c.budget) & ((run.stop != 2) | (run.steps == c.budget));
+    Total {
+        hits: plus(t.hits, run.hits),
+        steps: plus(t.steps, run.steps),
+        fulls: plus(t.fulls, (run.stop == 1) as usize),
+        mark: run.mark,
+        stop: stop,
+        good: t.good & run.good & kept,
+    }
+}
+
+// The claim about the whole list: its cells hold every occurrence from the first mark on to the last one, rising, and as
+// many were written; the last accepted call said done just if the pattern no longer fits from the last mark on; and the
+// steps are at most the places passed and the calls that said full.
+fn claimed(first: Call, t: Total, s: &[u8], list: &[u32]) -> bool {
+    let passed = minus(t.mark, first.mark);
+    let mut c = first;
+    c.way = 0;
+    c.budget = passed;
+    c.room = t.hits;
+    let all = naive::search(c, s, list);
+    let over = first.n < plus(t.mark, first.m);
+    t.good
+        & all.good
+        & (all.hits == t.hits)
+        & (all.mark == t.mark)
+        & ((t.stop == 3) | ((t.stop == 0) == over))
+        & (t.steps <= plus(passed, t.fulls))
+}
+
+// So many calls from mark to mark, with one scratch. Each is lent the cells after what the calls before it wrote, so that
+// the list holds all of it, joined.
+pub(crate) fn joined(first: Call, calls: usize, x: usize, s: &[u8], list: &mut [u32]) -> bool {
+    let mut scratch = [0u64; SCRATCH];
+    cells::fill64(&mut scratch, SCRATCH, x);
+    let mut c = first;
+    let mut t = Total {
+        hits: 0,
+        steps: 0,
+        fulls: 0,
+        mark: first.mark,
+        stop: 3,
+        good: true,
+    };
+    let mut left = calls;
+    while 0 < left {
+        c = next_call(c, x, left, calls);
+        let a = least_of(t.hits, list.len());
+        let run = judged(c, x, s, &mut list[a..], &mut scratch);
+        t = added(t, c, run);
+        c.mark = run.mark;
+        left -= 1;
+    }
+    claimed(first, t, s, list)
+}
