@@ -216,17 +216,23 @@ fn target(size: usize, k: usize, x: usize) -> usize {
     FILE
 }
 
-// A case over a buffer of drawn bytes: kind 0 writes a drawn list, and 1 reads a file: that of a drawn list, damaged or not,
-// or, once in three draws, a small count and drawn bytes.
-pub(crate) fn drawn(kind: usize, x: usize, s: &mut [u8; 813]) -> bool {
+// A drawn list is written, over a buffer of drawn bytes.
+pub(crate) fn drawn_written(x: usize, s: &mut [u8; 813]) -> bool {
     let mut list = [0u32; 24];
-    let k = draw(x, 0, if kind == 0 { 25 } else { 13 });
+    let k = draw(x, 0, 25);
     draw_list(&mut list, k, x);
-    if kind == 0 {
-        let size = codec::encode(cells::part32(&list, k), s);
-        let got = written(cells::part32(&list, k), target(size, k, x), x, s);
-        return got.good;
-    }
+    let drawn = cells::part32(&list, k);
+    let size = codec::encode(drawn, s);
+    let got = written(drawn, target(size, k, x), x, s);
+    got.good
+}
+
+// A file is read, over a buffer of drawn bytes: that of a drawn list, damaged or not, or, once in three draws, a small count and
+// drawn bytes.
+pub(crate) fn drawn_read(x: usize, s: &mut [u8; 813]) -> bool {
+    let mut list = [0u32; 24];
+    let k = draw(x, 0, 13);
+    draw_list(&mut list, k, x);
     let size = draw_file(cells::part32(&list, k), x, s);
     let room = choose(&CELLS, draw(x, 16, 4), x, 17);
     let got = read(packed::part(s, FILE, size), room, x, &mut list);

@@ -13,10 +13,11 @@ use draws::report;
 fn one(kind: usize, i: usize, x: usize) -> bool {
     let mut s = [0u8; 813];
     packed::fill(&mut s, x);
-    if kind == 2 {
-        return named::one(i, x, &mut s);
+    match kind {
+        0 => files::drawn_written(x, &mut s),
+        1 => files::drawn_read(x, &mut s),
+        _ => named::one(i, x, &mut s),
     }
-    files::drawn(kind, x, &mut s)
 }
 
 // The cases of a kind: how many disagree. Each of these is printed after the kind's line.

@@ -109,8 +109,8 @@ fn verdict(c: Call, x: usize, outcome: Outcome, s: &[u8], list: &[u32], scratch:
     run
 }
 
-// The call of both, on a list of known content. The scratch comes with what the calls before left in its first 4,224
-// cells, and a known content after them; where the call is to be refused, all of it is known.
+// The call of both, on a list of known content. The scratch has one after its first 4,224 cells, and in all of them where
+// the call is to be refused.
 pub(crate) fn judged(
     c: Call,
     x: usize,
@@ -118,8 +118,6 @@ pub(crate) fn judged(
     list: &mut [u32],
     scratch: &mut [u64; SCRATCH],
 ) -> Run {
-    let known = if 0 < naive::refusal(c) { SCRATCH } else { 0 };
-    cells::fill64(scratch, known, x);
     cells::fill32(list, x);
     let outcome = made(c, s, list, scratch);
     verdict(c, x, outcome, s, list, scratch)

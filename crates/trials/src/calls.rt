@@ -9,7 +9,6 @@ use draws::cells;
 use draws::draw::choose;
 use draws::draw::draw;
 use draws::number::least_of;
-use draws::number::minus;
 use draws::number::plus;
 
 // Budgets of every class, out of 12: none, every step, some, and very few, so that a list of calls goes far.
@@ -21,23 +20,23 @@ const ROOMS: [usize; 8] = [0, 1, 1, 1, 2050, 20, 0, 20];
 // Cells of the scratch of every class, out of 16: too few, one too few, just enough, and enough.
 const SCRATCHES: [usize; 8] = [0, 4224, 4223, 1, 4224, 1, 4224, 7];
 
-// The next call of a list, after which so many are left with it, has a method, a budget, cells and a scratch of its own. A
-// method that does not take the pattern is refused once in four draws; else the call is a plain or a wide one. A
-// single call stays.
-fn next_call(c: Call, x: usize, left: usize, calls: usize) -> Call {
-    let mut call = c;
-    if calls == 1 {
-        return call;
-    }
-    // what this call draws
-    let d = left % 16 * 16 + 16;
+// The method of a call on a pattern of m bits. One that does not take the pattern stays, and is refused, once in four draws;
+// else the call is a plain or a wide one.
+fn drawn_way(m: usize, x: usize, d: usize) -> usize {
     let way = draw(x, d, 4);
-    let unfit = c.m < naive::shortest(way);
-    call.way = if unfit & (0 < draw(x, d + 1, 4)) {
-        draw(x, d + 2, 2) % 2 * 3
+    if (m < naive::shortest(way)) & (0 < draw(x, plus(d, 1), 4)) {
+        draw(x, plus(d, 2), 2) % 2 * 3
     } else {
         way
-    };
+    }
+}
+
+// The next call of a list, of which so many are left, has a method, a budget, cells and a scratch of its own, from 16 draws of
+// its own.
+fn next_call(c: Call, x: usize, left: usize) -> Call {
+    let d = left % 16 * 16 + 16;
+    let mut call = c;
+    call.way = drawn_way(c.m, x, d);
     call.budget = choose(&BUDGETS, draw(x, d + 3, 12), x, d + 4);
     call.room = choose(&ROOMS, draw(x, d + 5, 8), x, d + 6);
     call.scratch = choose(&SCRATCHES, draw(x, d + 7, 16), x, d + 8);
@@ -69,14 +68,13 @@ fn added(t: Total, c: Call, run: Run) -> Total {
     }
 }
 
-// The claim about the whole list: its cells hold every occurrence from the first mark on to the last one, rising, and as
+// The claim about the whole list, whose first mark is 0: its cells hold every occurrence before the last mark, rising, and as
 // many were written; the last accepted call said done just if the pattern no longer fits from the last mark on; and the
-// steps are at most the places passed and the calls that said full.
+// steps are at most the last mark and the calls that said full.
 fn claimed(first: Call, t: Total, s: &[u8], list: &[u32]) -> bool {
-    let passed = minus(t.mark, first.mark);
     let mut c = first;
     c.way = 0;
-    c.budget = passed;
+    c.budget = t.mark;
     c.room = t.hits;
     let all = naive::search(c, s, list);
     let over = first.n < plus(t.mark, first.m);
@@ -85,12 +83,19 @@ fn claimed(first: Call, t: Total, s: &[u8], list: &[u32]) -> bool {
         & (all.hits == t.hits)
         & (all.mark == t.mark)
         & ((t.stop == 3) | ((t.stop == 0) == over))
-        & (t.steps <= plus(passed, t.fulls))
+        & (t.steps <= plus(t.mark, t.fulls))
 }
 
-// So many calls from mark to mark, with one scratch. Each is lent the cells after what the calls before it wrote, so that
+// A call that is to be refused finds a scratch of known content in all cells; another one finds, in the first 4,224, what
+// the calls before it left.
+fn refill(c: Call, x: usize, scratch: &mut [u64; SCRATCH]) {
+    let count = if 0 < naive::refusal(c) { SCRATCH } else { 0 };
+    cells::fill64(scratch, count, x);
+}
+
+// Twelve calls from mark to mark, with one scratch. Each is lent the cells after what the calls before it wrote, so that
 // the list holds all of it, joined.
-pub(crate) fn joined(first: Call, calls: usize, x: usize, s: &[u8], list: &mut [u32]) -> bool {
+pub(crate) fn joined(first: Call, x: usize, s: &[u8], list: &mut [u32]) -> bool {
     let mut scratch = [0u64; SCRATCH];
     cells::fill64(&mut scratch, SCRATCH, x);
     let mut c = first;
@@ -98,13 +103,14 @@ pub(crate) fn joined(first: Call, calls: usize, x: usize, s: &[u8], list: &mut [
         hits: 0,
         steps: 0,
         fulls: 0,
-        mark: first.mark,
+        mark: 0,
         stop: 3,
         good: true,
     };
-    let mut left = calls;
+    let mut left: usize = 12;
     while 0 < left {
-        c = next_call(c, x, left, calls);
+        c = next_call(c, x, left);
+        refill(c, x, &mut scratch);
         let a = least_of(t.hits, list.len());
         let run = judged(c, x, s, &mut list[a..], &mut scratch);
         t = added(t, c, run);

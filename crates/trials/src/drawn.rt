@@ -2,6 +2,7 @@
 // Each choice has a draw of its own, by its index.
 use crate::call::ALL;
 use crate::call::Call;
+use crate::call::single;
 use crate::calls::joined;
 use crate::naive;
 use draws::draw::choose;
@@ -83,9 +84,9 @@ const TEXTS: [usize; 20] = [
     200,
 ];
 
-// The classes after `last` are that one.
-fn text_length(x: usize, m: usize, last: usize) -> usize {
-    let class = least_of(draw(x, 3, 32), last);
+// A list of calls, whose number is 4, has no text of the last class, so that it goes far.
+fn text_length(x: usize, m: usize, way: usize) -> usize {
+    let class = least_of(draw(x, 3, 32), 9 - way / 4 % 2);
     let more = choose(&TEXTS, class, x, 4);
     if class < 2 {
         return plus(more / 8 * 8, class);
@@ -99,6 +100,10 @@ fn text_length(x: usize, m: usize, last: usize) -> usize {
 // A period from 1 to 24, once in three draws.
 const PERIODS: [usize; 4] = [1, 24, 0, 1];
 
+fn period(x: usize, i: usize) -> usize {
+    choose(&PERIODS, draw(x, i, 3), x, plus(i, 1))
+}
+
 // k bits from `at` on repeat from the period on; none do where it is 0.
 pub(crate) fn repeat(s: &mut [u8], at: usize, k: usize, period: usize) {
     let count = if period == 0 { 0 } else { minus(k, period) };
@@ -107,9 +112,9 @@ pub(crate) fn repeat(s: &mut [u8], at: usize, k: usize, period: usize) {
 
 // Text and pattern in a buffer of drawn bits stay random or become repetitive; the pattern is often a part of the text.
 fn draw_bits(s: &mut [u8], n: usize, m: usize, x: usize) {
-    repeat(s, TEXT_BIT, n, choose(&PERIODS, draw(x, 5, 3), x, 6));
+    repeat(s, TEXT_BIT, n, period(x, 5));
     if draw(x, 7, 4) == 0 {
-        repeat(s, 0, m, choose(&PERIODS, draw(x, 8, 3), x, 9));
+        repeat(s, 0, m, period(x, 8));
     } else {
         packed::copy(s, plus(TEXT_BIT, draw(x, 10, naive::places(n, m))), 0, m);
     }
@@ -119,8 +124,7 @@ fn draw_bits(s: &mut [u8], n: usize, m: usize, x: usize) {
 // the bytes that they need or up to two more, and the scratch up to six cells more.
 fn whole(way: usize, x: usize, s: &mut [u8]) -> Call {
     let m = pattern_length(x, way);
-    // a list of calls has a long text, so that it goes far
-    let n = text_length(x, m, if way == 4 { 8 } else { 9 });
+    let n = text_length(x, m, way);
     draw_bits(s, n, m, x);
     // once in four draws a bit of the pattern becomes another bit, so that it may almost occur
     packed::copy(s, draw(x, 15, 2048), draw(x, 16, m), draw(x, 17, 4) / 3 % 2);
@@ -163,7 +167,7 @@ const EDGES: [usize; 24] = [
     0,
     1,
     2,
-    ALL,
+    3221225471,
 ];
 
 // How many rows there are.
@@ -179,12 +183,9 @@ fn row(edges: &[usize], i: usize) -> Call {
         m: m,
         word: entry(edges, 15 + i / 200 % 5),
         way: i / 1000 % 4,
-        mark: least_of(
-            minus(
-                plus(naive::places(n, m), entry(edges, 20 + i / 4000 % 4)),
-                1,
-            ),
-            ALL,
+        mark: minus(
+            plus(naive::places(n, m), entry(edges, 20 + i / 4000 % 4)),
+            1,
         ),
         budget: ALL,
         room: 20,
@@ -192,7 +193,7 @@ fn row(edges: &[usize], i: usize) -> Call {
     }
 }
 
-// A case over drawn buffers: kinds 0 to 3 are the methods whole, 4 is a list of twelve calls, 5 a row of the refusals.
+// A case over drawn buffers: kinds 0 to 3 are the methods whole, 4 is a list of calls, 5 a row of the refusals.
 pub(crate) fn one(
     kind: usize,
     i: usize,
@@ -205,6 +206,9 @@ pub(crate) fn one(
     } else {
         whole(kind, x, s)
     };
-    let calls = if kind == 4 { 12 } else { 1 };
-    joined(c, calls, x, s, list)
+    if kind == 4 {
+        return joined(c, x, s, list);
+    }
+    let run = single(c, x, s, list);
+    run.good
 }

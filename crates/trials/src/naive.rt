@@ -35,30 +35,32 @@ pub(crate) fn shortest(way: usize) -> usize {
     SHORTEST[way % 4]
 }
 
-// The first row of the table of refusals whose condition holds, or 0.
+// The first row of the table of refusals whose condition holds, or 0. The rows are taken from the last one on, so that the
+// first one stays.
 pub(crate) fn refusal(c: Call) -> usize {
-    if 1073741824 < c.n {
-        return 1;
-    }
-    if c.text < ceiling(c.n) {
-        return 2;
-    }
-    if c.m == 0 {
-        return 3;
-    }
-    if 2048 < c.m {
-        return 3;
-    }
-    if c.word < ceiling(c.m) {
-        return 4;
-    }
-    if c.m < shortest(c.way) {
-        return 5;
+    let mut why: usize = 0;
+    if c.scratch < 4224 {
+        why = 7;
     }
     if places(c.n, c.m) < c.mark {
-        return 6;
+        why = 6;
     }
-    if c.scratch < 4224 { 7 } else { 0 }
+    if c.m < shortest(c.way) {
+        why = 5;
+    }
+    if c.word < ceiling(c.m) {
+        why = 4;
+    }
+    if (c.m == 0) | (2048 < c.m) {
+        why = 3;
+    }
+    if c.text < ceiling(c.n) {
+        why = 2;
+    }
+    if 1073741824 < c.n {
+        why = 1;
+    }
+    why
 }
 
 // The least d from `first` to m that meets H's condition: the pattern, moved by d, shows the eight bits from p on. The
@@ -121,29 +123,40 @@ fn next_mark(c: Call, s: &[u8], at: usize) -> usize {
     }
 }
 
-// The place `at` is decided, unless the call stopped before. A step begins where the last one ends.
-fn decided(mut run: Run, c: Call, s: &[u8], list: &[u32], at: usize) -> Run {
-    if 0 < run.stop {
-        return run;
-    }
-    if at == run.next {
-        if run.steps == c.budget {
-            run.stop = 2;
-            return run;
-        }
+// A step begins at a place, unless the budget is spent.
+fn begun(mut run: Run, c: Call, s: &[u8], at: usize) -> Run {
+    if run.steps == c.budget {
+        run.stop = 2;
+    } else {
         run.steps = plus(run.steps, 1);
         run.next = next_mark(c, s, at);
     }
-    if agree(s, plus(TEXT_BIT, at), 0, c.m) {
-        if run.hits == c.room {
-            run.stop = 1;
-            return run;
-        }
-        run.good = run.good & (get32(list, run.hits) == small(at));
-        run.hits = plus(run.hits, 1);
-    }
-    run.mark = plus(at, 1);
     run
+}
+
+// A place is decided. An occurrence is written, unless the list is full.
+fn decided(mut run: Run, c: Call, s: &[u8], list: &[u32], at: usize) -> Run {
+    let hit = agree(s, plus(TEXT_BIT, at), 0, c.m);
+    if hit & (run.hits == c.room) {
+        run.stop = 1;
+    } else {
+        run.good = run.good & (!hit | (get32(list, run.hits) == small(at)));
+        run.hits = plus(run.hits, hit as usize);
+        run.mark = plus(at, 1);
+    }
+    run
+}
+
+// The next place, unless the call stopped before. A step begins where the last one ends.
+fn moved(run: Run, c: Call, s: &[u8], list: &[u32], at: usize) -> Run {
+    let mut now = run;
+    if (run.stop == 0) & (at == run.next) {
+        now = begun(run, c, s, at);
+    }
+    if now.stop == 0 {
+        now = decided(now, c, s, list, at);
+    }
+    now
 }
 
 // What a call is to come to, and whether the list holds what is to be written: every occurrence from the mark on to the
@@ -165,7 +178,7 @@ pub(crate) fn search(c: Call, s: &[u8], list: &[u32]) -> Run {
     let end = places(c.n, c.m);
     let mut at = c.mark;
     while at < end {
-        run = decided(run, c, s, list, at);
+        run = moved(run, c, s, list, at);
         at += 1;
     }
     run

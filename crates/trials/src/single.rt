@@ -32,17 +32,8 @@ fn eight_number(why: eight::Refusal) -> usize {
 // Bit counts about the greatest one, once in 50, or small.
 const COUNTS: [usize; 4] = [1073741820, 9, 0, 101];
 
-// Eight bits from p on lie inside where a pattern of eight bits may have the mark p + 1.
-pub(crate) fn eight_bits(x: usize, s: &mut [u8; 813]) -> bool {
-    let n = choose(&COUNTS, draw(x, 0, 50), x, 1);
-    let short = least_of(n, 100);
-    // about the greatest number of 32 bits, once in 16
-    let p = if draw(x, 2, 16) == 0 {
-        plus(4294967280, draw(x, 3, 16))
-    } else {
-        draw(x, 4, plus(short, 3))
-    };
-    let a = minus(plus(ceiling(short), draw(x, 5, 4)), 1);
+// Eight bits of n in so many bytes, from p on: they lie inside where a pattern of eight bits may have the mark p + 1.
+fn eight_from(n: usize, a: usize, p: usize, s: &mut [u8; 813]) -> bool {
     let why = naive::refusal(Call {
         n: n,
         text: a,
@@ -64,6 +55,22 @@ pub(crate) fn eight_bits(x: usize, s: &mut [u8; 813]) -> bool {
             return why == eight_number(r);
         }
     }
+}
+
+// A place about so many bits, or, once in 16, about the greatest number of 32 bits.
+fn drawn_place(x: usize, bits: usize) -> usize {
+    if draw(x, 2, 16) == 0 {
+        plus(4294967280, draw(x, 3, 16))
+    } else {
+        draw(x, 4, plus(bits, 3))
+    }
+}
+
+pub(crate) fn eight_bits(x: usize, s: &mut [u8; 813]) -> bool {
+    let n = choose(&COUNTS, draw(x, 0, 50), x, 1);
+    let short = least_of(n, 100);
+    let a = minus(plus(ceiling(short), draw(x, 5, 4)), 1);
+    eight_from(n, a, drawn_place(x, short), s)
 }
 
 // H of the m bits of a pattern in b bytes at the front, and the value at the text's.

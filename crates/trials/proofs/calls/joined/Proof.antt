@@ -7,11 +7,11 @@ use Rattle.trials.proofs.calls.joined.Statement.{statement}
 use Rattle.trials.proofs.calls.joined.Tie as tie
 
 abbrev Inv-loop : tie.InvT-loop
-Inv-loop first calls x s list₀ scratch₀ c₀ t₀ left₀ list scratch c t left =
+Inv-loop first x s list₀ scratch₀ c₀ t₀ left₀ list scratch c t left =
     length list ≡ length list₀
 
 abbrev μ-loop : tie.MeasureT-loop
-μ-loop first calls x s list₀ scratch₀ c₀ t₀ left₀ list scratch c t left = left
+μ-loop first x s list₀ scratch₀ c₀ t₀ left₀ list scratch c t left = left
 
 slice-aggregate-fill64 : tie.Need-slice-aggregate-fill64 Inv-loop μ-loop
 slice-aggregate-fill64 c = search needs
@@ -24,6 +24,9 @@ loop-holds c = search needs
 
 next-call-requires : tie.Need-next-call-requires Inv-loop μ-loop
 next-call-requires c κs = search needs
+
+refill-requires : tie.Need-refill-requires Inv-loop μ-loop
+refill-requires c κs = search needs
 
 least-of-requires : tie.Need-least-of-requires Inv-loop μ-loop
 least-of-requires c κs = search needs
@@ -74,6 +77,7 @@ joined-spec =
     fill64-requires
     loop-holds
     next-call-requires
+    refill-requires
     least-of-requires
     mul-judged
     sub-judged

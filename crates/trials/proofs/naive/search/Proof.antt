@@ -23,8 +23,8 @@ places-requires c κs = search needs
 loop-holds : tie.Need-loop-holds Inv-loop μ-loop
 loop-holds c = search needs
 
-decided-requires : tie.Need-decided-requires Inv-loop μ-loop
-decided-requires c κs = search needs
+moved-requires : tie.Need-moved-requires Inv-loop μ-loop
+moved-requires c κs = search needs
 
 add-at : tie.Need-add-at Inv-loop μ-loop
 add-at c = search needs
@@ -48,7 +48,7 @@ search-spec =
     returns
     places-requires
     loop-holds
-    decided-requires
+    moved-requires
     add-at
     loop-less
     loop-again
