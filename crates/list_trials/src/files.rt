@@ -227,8 +227,8 @@ pub(crate) fn drawn_written(x: usize, s: &mut [u8; 813]) -> bool {
     got.good
 }
 
-// A file is read, over a buffer of drawn bytes: that of a drawn list, damaged or not, or, once in three draws, a small count and
-// drawn bytes.
+// A file is read, over a buffer of drawn bytes: that of a drawn list, damaged or not, or, once in three draws, a small count
+// and drawn bytes.
 pub(crate) fn drawn_read(x: usize, s: &mut [u8; 813]) -> bool {
     let mut list = [0u32; 24];
     let k = draw(x, 0, 13);

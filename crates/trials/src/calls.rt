@@ -31,8 +31,8 @@ fn drawn_way(m: usize, x: usize, d: usize) -> usize {
     }
 }
 
-// The next call of a list, of which so many are left, has a method, a budget, cells and a scratch of its own, from 16 draws of
-// its own.
+// The next call of a list, of which so many are left, has a method, a budget, cells and a scratch of its own, each from a
+// draw of its own: a call has 16 of them.
 fn next_call(c: Call, x: usize, left: usize) -> Call {
     let d = left % 16 * 16 + 16;
     let mut call = c;
@@ -68,8 +68,8 @@ fn added(t: Total, c: Call, run: Run) -> Total {
     }
 }
 
-// The claim about the whole list, whose first mark is 0: its cells hold every occurrence before the last mark, rising, and as
-// many were written; the last accepted call said done just if the pattern no longer fits from the last mark on; and the
+// The claim about the whole list, whose first mark is 0: its cells hold every occurrence before the last mark, rising, and
+// as many were written; the last accepted call said done just if the pattern no longer fits from the last mark on; and the
 // steps are at most the last mark and the calls that said full.
 fn claimed(first: Call, t: Total, s: &[u8], list: &[u32]) -> bool {
     let mut c = first;

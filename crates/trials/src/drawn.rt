@@ -47,7 +47,7 @@ const PATTERNS: [usize; 28] = [
     40,
 ];
 
-// A length that is too short for the method grows by its shortest one, but once in eight draws.
+// A length that is too short for the method grows by the shortest one that the method takes; once in eight draws it stays.
 pub(crate) fn pattern_length(x: usize, way: usize) -> usize {
     let m = choose(&PATTERNS, draw(x, 0, 40), x, 1);
     let least = naive::shortest(way);
