@@ -2,25 +2,24 @@
 -- Assumes nothing.
 use mathlib.Core.Path.{refl}
 use native.Mathlib.Omega.{arith}
-use borrow.Author.Needs.{needs}
 use Rattle.hits.proofs.Reporting.{four-stored}
 use Rattle.hits.proofs.report.four_lines.Statement.{statement}
 use Rattle.hits.proofs.report.four_lines.Tie as tie
 
 search-line-requires : tie.Need-search-line-requires
-search-line-requires c κs = search needs
+search-line-requires c κs = omega arith
 
 search-line-requires-2 : tie.Need-search-line-requires-2
-search-line-requires-2 c κs = search needs
+search-line-requires-2 c κs = omega arith
 
 search-line-requires-3 : tie.Need-search-line-requires-3
-search-line-requires-3 c κs = search needs
+search-line-requires-3 c κs = omega arith
 
 search-line-requires-4 : tie.Need-search-line-requires-4
-search-line-requires-4 c κs = search needs
+search-line-requires-4 c κs = omega arith
 
 same-length : tie.Need-same-length
-same-length c = search needs
+same-length c = omega arith
 
 returns : tie.Need-returns
 returns c =

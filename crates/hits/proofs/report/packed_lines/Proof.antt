@@ -6,39 +6,40 @@ use lib.ListN.{length-take}
 use lib.Seq.{length-take-le}
 use borrow.Author.Needs.{needs}
 use Rattle.lines.proofs.Putting.{puts-as}
+use Rattle.hits.proofs.Enough.{cells}
 use Rattle.hits.proofs.Reporting.{packed-printed}
 use Rattle.hits.proofs.report.packed_lines.Statement.{statement}
 use Rattle.hits.proofs.report.packed_lines.Tie as tie
 
 add-start : tie.Need-add-start
-add-start c = search needs
+add-start c = omega arith
 
 add-end : tie.Need-add-end
-add-end c = search needs
+add-end c = omega arith
 
 slice-aggregate-pack : tie.Need-slice-aggregate-pack
 slice-aggregate-pack c = sym (length-take-le _ _ (omega arith))
 
 slice-aggregate-pack-2 : tie.Need-slice-aggregate-pack-2
-slice-aggregate-pack-2 c = search needs
+slice-aggregate-pack-2 c = cells 256
 
 pack-requires : tie.Need-pack-requires
 pack-requires c κs = simp length-take (omega arith)
 
 sub-pack : tie.Need-sub-pack
-sub-pack c = search needs
+sub-pack c = omega arith
 
 part-pack-start : tie.Need-part-pack-start
-part-pack-start c = search needs
+part-pack-start c = omega arith
 
 part-pack-end : tie.Need-part-pack-end
-part-pack-end c = search needs
+part-pack-end c = omega arith
 
 slice-aggregate-pack-3 : tie.Need-slice-aggregate-pack-3
-slice-aggregate-pack-3 c = search needs
+slice-aggregate-pack-3 c = cells 512
 
 pack-requires-2 : tie.Need-pack-requires-2
-pack-requires-2 c κs = search needs
+pack-requires-2 c κs = omega arith
 
 array-share-prefix-word-bytes : tie.Need-array-share-prefix-word-bytes
 array-share-prefix-word-bytes c = search needs
@@ -53,10 +54,10 @@ slice-aggregate-text : tie.Need-slice-aggregate-text
 slice-aggregate-text c = search needs
 
 four-lines-requires : tie.Need-four-lines-requires
-four-lines-requires c κs = search needs
+four-lines-requires c κs = omega arith
 
 same-length : tie.Need-same-length
-same-length c = search needs
+same-length c = omega arith
 
 returns : tie.Need-returns
 returns c =
