@@ -44,6 +44,7 @@ unfoldable pub lineOf : Method → Verdict Run → List ℕ
 lineOf x (accepted r) = acceptedLine x (r .steps) (r .written)
 lineOf x (refused number) = refusedLine x number
 
+-- the line of one way
 unfoldable pub searchLine : Packed → Pattern → Method → List ℕ
 searchLine t w x = lineOf x (verdict (asked t w x))
 
@@ -51,10 +52,11 @@ searchLine t w x = lineOf x (verdict (asked t w x))
 unfoldable pub fourLines : Packed → Pattern → List ℕ
 fourLines t w = searchLine t w Plain ++ (searchLine t w Hash ++ (searchLine t w Skip ++ searchLine t w Wide))
 
+-- what is printed for an input that is bad, and for one that holds the word w and the recording t
 unfoldable pub printedOf : Parsed → List ℕ
 printedOf bad = badInput
 printedOf (lines w t) = fourLines (textIn t) (patternIn w)
 
--- "Program `hits` reads two lines .. from standard input"
+-- "Program `hits` reads two lines .. from standard input": what it prints for the bytes s
 unfoldable pub printed : List ℕ → List ℕ
 printed s = printedOf (parse s)

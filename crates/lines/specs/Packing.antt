@@ -1,4 +1,4 @@
--- A line's bits packed into bytes, "packed alike" a recording and a word.
+-- The bits of a line in bytes, packed as a recording and a word are.
 use Prim.Native.Nat.{ℕ, zero, suc, _+_, _*_}
 use mathlib.Core.Path.{_≡_}
 use mathlib.Core.List.{List, [], _∷_, map}
