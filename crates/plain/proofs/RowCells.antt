@@ -41,6 +41,10 @@ with-first n f r first iff = (all, λ g. iff .1 (λ k l u. g k (omega arith) u))
     all e zero l u = first
     all e (suc k) l u = iff .0 e (suc k) (omega arith) u
 
+-- the byte under the first one of cell k, from that of the place and that of the row's bit 64 k
+pub cell-byte : (s k : ℕ) {a r : ℕ} → a ≡ s / 8 → r ≡ 64 * k / 8 → a + r ≡ (s + 64 * k) / 8
+cell-byte s k {a} {r} e f = omega arith
+
 module _ (text cells : List ℕ) where
   -- a cell read at its place in the table, and the eight bytes of the text at theirs
   pub cell-read : (s k b row x : ℕ) → b ≡ (s + 64 * k) / 8 → row ≡ s % 8 → x ≡ bitsAt text (b * 8) 64

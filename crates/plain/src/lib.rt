@@ -97,9 +97,9 @@ fn in_blocks(text: &[u8], cells: &[u64], from: ByteNo, limit: Place) -> Place
     requires { ⌜ (16 ≤ length (now cells)) × (limit .0 ≤ 2 ^ 30 + 1) × (8 * from .0 ≤ limit .0 + 8) ⌝ }
     ensures { λ r. ⌜ (8 * from .0 ≤ r .0) × (r .0 ≤ limit .0 + 8) × ((p : ℕ) → 8 * from .0 ≤ p → p < r .0 → cellFits (now (text .entry)) (now (cells .entry)) p 0 ≡ false) × (r .0 < limit .0 → cellFits (now (text .entry)) (now (cells .entry)) (r .0) 0 ≡ true) ⌝ }
 {
-    let end = limit.0;
+    let end = bits::bytes_for(limit.0 as u64) as usize;
     let mut b = from;
-    while b.place().0 < end {
+    while b.0 < end {
         let r = first_row(cells, load::word_at_byte(text, b), 0);
         if r < 8 {
             return b.place_at(r as u32);
@@ -128,12 +128,11 @@ fn row_fits(text: &[u8], m: u32, cells: &[u64], s: Place, from: usize) -> bool
     ensures { λ r. ⌜ (r ≡ true) ↔ ((k : ℕ) → from ≤ k → k < rowChunks m → cellFits (now (text .entry)) (now (cells .entry)) (s .0) k ≡ true) ⌝ }
 {
     let chunks = ((m + 70) / 64) as usize;
-    let at = s.0;
     let row = s.offset() as usize;
     let mut k = from;
     while k < chunks {
         let c = 16 * k + row;
-        let b = Place(at + 64 * k as u32).byte();
+        let b = ByteNo(s.byte().0 + Place(64 * k as u32).byte().0);
         if load::word_at_byte(text, b) & cells[c + 8] != cells[c] {
             return false;
         }

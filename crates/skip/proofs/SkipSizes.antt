@@ -23,6 +23,7 @@ pub record Sizes (p n m len b : ℕ) : Type 0 where
 -- the byte b lies inside a text of n bits and `len` bytes
 pub record ByteSizes (n len b : ℕ) : Type 0 where
   pub small : b < 2 ^ 29
+  pub first : 8 * b < 2 ^ 64
   pub top : 8 * b + 1 < 2 ^ 32
   pub top-wide : 8 * b + 1 < 2 ^ 64
   pub there : b < len
@@ -39,7 +40,7 @@ module _ (t : Packed) (w : Pattern) (cells : List ℕ) (ready : Ready Skip t w c
   byte-sizes b h =
       let few = ready .few-bits in
       let there = ready .bytes-there in
-      record { small = omega arith; top = omega arith; top-wide = omega arith; there = omega arith; less = λ j. omega arith }
+      record { small = omega arith; first = omega arith; top = omega arith; top-wide = omega arith; there = omega arith; less = λ j. omega arith }
 
   module _ (s : ℕ) where
     -- what `last_byte` asks for

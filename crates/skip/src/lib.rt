@@ -185,7 +185,7 @@ fn chain(
     ensures { λ r. ⌜ Stepped Method.Skip (textOf (now (text .entry)) n) (patternOf (now (word .entry)) m) (8 * b .0 + 1 - chained m) (now (list .entry)) had (r .at .0) (r .hits) (r .full) (now (list .exit)) ⌝ }
 {
     let byte = b.0;
-    let top = b.place_at(1).0 as usize;
+    let top = b.place().0 as usize + 1;
     let end = n - m + 1;
     let mut next = cells[text[byte] as usize] as usize;
     let mut written = had;

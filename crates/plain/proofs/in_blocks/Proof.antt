@@ -3,7 +3,7 @@
 use borrow.Author.Needs.{needs}
 use mathlib.Core.Path.{_≡_}
 use mathlib.Core.Bool.{false}
-use Prim.Native.Nat.{_+_, _-_, _*_, _≤_}
+use Prim.Native.Nat.{_-_, _*_, _≤_, max}
 use native.Mathlib.Omega.{arith}
 use denote.Ref.{now}
 use Rattle.plain.specs.RowCells.{cellFits}
@@ -13,16 +13,19 @@ use Rattle.plain.proofs.in_blocks.Statement.{statement}
 use Rattle.plain.proofs.in_blocks.Tie as tie
 
 abbrev Inv-loop : tie.InvT-loop
-Inv-loop text cells end b₀ b = (b₀ .0 ≤ b .0) × (8 * b .0 ≤ end + 8) × Between (λ p. cellFits text cells p 0 ≡ false) (8 * b₀ .0) (8 * b .0)
+Inv-loop text cells end b₀ b = (b₀ .0 ≤ b .0) × (b .0 ≤ max (b₀ .0) end) × Between (λ p. cellFits text cells p 0 ≡ false) (8 * b₀ .0) (8 * b .0)
 
 abbrev μ-loop : tie.MeasureT-loop
-μ-loop text cells end b₀ b = end - 8 * b .0
+μ-loop text cells end b₀ b = end - b .0
+
+cast-bytes-for : tie.Need-cast-bytes-for Inv-loop μ-loop
+cast-bytes-for c = search needs
+
+bytes-for-requires : tie.Need-bytes-for-requires Inv-loop μ-loop
+bytes-for-requires c κs = search needs
 
 loop-holds : tie.Need-loop-holds Inv-loop μ-loop
 loop-holds c = (omega arith, omega arith, between-none _ _)
-
-place-requires : tie.Need-place-requires Inv-loop μ-loop
-place-requires c κs = search needs
 
 word-at-byte-requires : tie.Need-word-at-byte-requires Inv-loop μ-loop
 word-at-byte-requires c κs = search needs
@@ -38,45 +41,43 @@ place-at-requires c κs = search needs
 
 returns : tie.Need-returns Inv-loop μ-loop
 returns c =
-    let a = c .before .before .before .before .before .before .before .before .before .before .args in
-    let l = c .before .before .before .before .before .before .before .loop in
+    let a = c .before .before .before .before .before .before .before .before .before .before .before .args in
+    let l = c .before .before .before .before .before .before .loop in
     let row = c .before .before .first-row .ensures in
     let load = c .before .before .before .word-at-byte .ensures in
-    let there = c .place-at .ensures in
-    let test = c .before .before .before .before .before .before .place .ensures in (
+    let there = c .place-at .ensures in (
       omega arith,
-      omega (arith, c .before .before .before .before .if1 .taken),
+      omega (arith, c .before .before .before .before .before .before .before .bytes-for .ensures, c .before .before .before .before .if1 .taken),
       between-join _ _ (8 * l .b .0) _ (l .inv .2) (λ p g u.
           block-passed (now (a .text)) (now (a .cells)) (l .b .0) 0 _ _ (row .1) load (row .2) p (omega arith) (omega arith)),
       λ u. rw there (block-fits (now (a .text)) (now (a .cells)) (l .b .0) _ _ (c .before .if2 .taken) load (row .3 (c .before .if2 .taken))),
     )
 
-add-t12 : tie.Need-add-t12 Inv-loop μ-loop
-add-t12 c = search needs
+add-t13 : tie.Need-add-t13 Inv-loop μ-loop
+add-t13 c = search needs
 
 loop-less : tie.Need-loop-less Inv-loop μ-loop
-loop-less c = omega (arith, c .before .before .before .before .before .before .place .ensures)
+loop-less c = search needs
 
 loop-again : tie.Need-loop-again Inv-loop μ-loop
 loop-again c =
-    let a = c .before .before .before .before .before .before .before .before .before .before .args in
-    let l = c .before .before .before .before .before .before .before .loop in
-    let row = c .before .before .first-row .ensures in
-    let test = c .before .before .before .before .before .before .place .ensures in (
+    let a = c .before .before .before .before .before .before .before .before .before .before .before .args in
+    let l = c .before .before .before .before .before .before .loop in
+    let row = c .before .before .first-row .ensures in (
       omega arith,
       omega arith,
       between-join _ _ (8 * l .b .0) _ (l .inv .2) (λ p g u.
           block-passed (now (a .text)) (now (a .cells)) (l .b .0) 0 _ _ (row .1) (c .before .before .before .word-at-byte .ensures) (row .2) p (omega arith) (omega arith)),
     )
 
-place-requires-2 : tie.Need-place-requires-2 Inv-loop μ-loop
-place-requires-2 c κs = search needs
+place-requires : tie.Need-place-requires Inv-loop μ-loop
+place-requires c κs = search needs
 
 returns-2 : tie.Need-returns-2 Inv-loop μ-loop
 returns-2 c =
-    let l = c .before .before .before .before .loop in
-    let test = c .before .before .before .place .ensures in
-    let there = c .place2 .ensures in
+    let l = c .before .before .before .loop in
+    let bytes = c .before .before .before .before .bytes-for .ensures in
+    let there = c .place .ensures in
     (omega arith, omega arith, λ p g u. l .inv .2 p g (omega arith), λ u. absurd (omega arith))
 
 pub in-blocks-spec : {M : Type 1} → statement M
@@ -85,15 +86,16 @@ in-blocks-spec =
     (tie.spec
     Inv-loop
     μ-loop
+    cast-bytes-for
+    bytes-for-requires
     loop-holds
-    place-requires
     word-at-byte-requires
     first-row-requires
     cast-place-at
     place-at-requires
     returns
-    add-t12
+    add-t13
     loop-less
     loop-again
-    place-requires-2
+    place-requires
     returns-2)

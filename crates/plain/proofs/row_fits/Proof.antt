@@ -9,15 +9,15 @@ use borrow.Author.Tests.{eqb-true, eq-eqb}
 use denote.Ref.{now}
 use Rattle.plain.specs.RowCells.{cellFits}
 use Rattle.plain.proofs.Between.{Between, between-none, between-more}
-use Rattle.plain.proofs.RowCells.{granted, refused, cell-read}
+use Rattle.plain.proofs.RowCells.{granted, refused, cell-byte, cell-read}
 use Rattle.plain.proofs.row_fits.Statement.{statement}
 use Rattle.plain.proofs.row_fits.Tie as tie
 
 abbrev Inv-loop : tie.InvT-loop
-Inv-loop text m cells from chunks at row k₀ k = (from ≤ k) × Between (λ y. cellFits text cells at y ≡ true) from k
+Inv-loop text m cells s from chunks row k₀ k = (from ≤ k) × Between (λ y. cellFits text cells (s .0) y ≡ true) from k
 
 abbrev μ-loop : tie.MeasureT-loop
-μ-loop text m cells from chunks at row k₀ k = chunks - k
+μ-loop text m cells s from chunks row k₀ k = chunks - k
 
 add-chunks : tie.Need-add-chunks Inv-loop μ-loop
 add-chunks c = search needs
@@ -40,23 +40,26 @@ mul-c c = search needs
 add-c : tie.Need-add-c Inv-loop μ-loop
 add-c c = search needs
 
-cast-t16 : tie.Need-cast-t16 Inv-loop μ-loop
-cast-t16 c = search needs
-
-mul-t17 : tie.Need-mul-t17 Inv-loop μ-loop
-mul-t17 c = search needs
-
-add-t18 : tie.Need-add-t18 Inv-loop μ-loop
-add-t18 c = search needs
-
 byte-requires : tie.Need-byte-requires Inv-loop μ-loop
 byte-requires c κs = search needs
+
+cast-t17 : tie.Need-cast-t17 Inv-loop μ-loop
+cast-t17 c = search needs
+
+mul-t18 : tie.Need-mul-t18 Inv-loop μ-loop
+mul-t18 c = search needs
+
+byte-requires-2 : tie.Need-byte-requires-2 Inv-loop μ-loop
+byte-requires-2 c κs = search needs
+
+add-if1 : tie.Need-add-if1 Inv-loop μ-loop
+add-if1 c = search needs
 
 word-at-byte-requires : tie.Need-word-at-byte-requires Inv-loop μ-loop
 word-at-byte-requires c κs = search needs
 
-add-if1 : tie.Need-add-if1 Inv-loop μ-loop
-add-if1 c = search needs
+add-if1-2 : tie.Need-add-if1-2 Inv-loop μ-loop
+add-if1-2 c = search needs
 
 mul-if1 : tie.Need-mul-if1 Inv-loop μ-loop
 mul-if1 c = search needs
@@ -72,12 +75,12 @@ shared-slice-read-if1-2 c = search needs
 
 returns : tie.Need-returns Inv-loop μ-loop
 returns c =
-    let a = c .before .before .before .before .before .before .before .before .before .before .args in
-    let l = c .before .before .before .before .before .before .loop in
+    let a = c .before .before .before .before .before .before .before .before .before .before .before .before .before .args in
+    let l = c .before .before .before .before .before .before .before .before .before .loop in
     refused (λ f. c .if1 .taken
     (eqb-true _ _
-    (cell-read (now (a .text)) (now (a .cells)) (a .s .0) (l .k) _ _ _ (c .before .before .before .before .byte .ensures)
-    (c .before .before .before .before .before .before .before .offset .ensures) (c .before .before .before .word-at-byte .ensures)
+    (cell-read (now (a .text)) (now (a .cells)) (a .s .0) (l .k) _ _ _ (cell-byte (a .s .0) (l .k) (c .before .before .before .before .before .before .before .byte .ensures) (c .before .before .before .before .before .before .byte2 .ensures))
+    (c .before .before .before .before .before .before .before .before .before .before .offset .ensures) (c .before .before .before .word-at-byte .ensures)
     ∙ f (l .k) (l .inv .0) (omega arith))))
 
 add-k : tie.Need-add-k Inv-loop μ-loop
@@ -88,12 +91,12 @@ loop-less c = search needs
 
 loop-again : tie.Need-loop-again Inv-loop μ-loop
 loop-again c =
-    let a = c .before .before .before .before .before .before .before .before .before .before .args in
-    let l = c .before .before .before .before .before .before .loop in (
+    let a = c .before .before .before .before .before .before .before .before .before .before .before .before .before .args in
+    let l = c .before .before .before .before .before .before .before .before .before .loop in (
       omega arith,
       between-more _ _ _ (l .inv .1)
-          (sym (cell-read (now (a .text)) (now (a .cells)) (a .s .0) (l .k) _ _ _ (c .before .before .before .before .byte .ensures)
-          (c .before .before .before .before .before .before .before .offset .ensures) (c .before .before .before .word-at-byte .ensures))
+          (sym (cell-read (now (a .text)) (now (a .cells)) (a .s .0) (l .k) _ _ _ (cell-byte (a .s .0) (l .k) (c .before .before .before .before .before .before .before .byte .ensures) (c .before .before .before .before .before .before .byte2 .ensures))
+          (c .before .before .before .before .before .before .before .before .before .before .offset .ensures) (c .before .before .before .word-at-byte .ensures))
           ∙ eq-eqb _ _ (c .if1 .left)),
     )
 
@@ -115,12 +118,13 @@ row-fits-spec =
     loop-holds
     mul-c
     add-c
-    cast-t16
-    mul-t17
-    add-t18
     byte-requires
-    word-at-byte-requires
+    cast-t17
+    mul-t18
+    byte-requires-2
     add-if1
+    word-at-byte-requires
+    add-if1-2
     mul-if1
     shared-slice-read-if1
     mul-if1-2

@@ -6,9 +6,9 @@ use Prim.Native.Nat.{ℕ, _+_, _-_, _*_, _^_, _≤_, _<_, min}
 use mathlib.Core.Path.{_≡_, sym, ap, _∙_}
 use mathlib.Core.Logic.{⊎-elim}
 use mathlib.Core.Bool.{Bool}
+use native.Mathlib.Nat.{mul-comm}
 use native.Mathlib.Omega.{arith}
 use denote.Ref.{now}
-use lib.Dec.{lit<}
 use lib.ListN.{length, getD}
 use Rattle.bits.specs.Packed.{bitsAt}
 use Rattle.rules.specs.Occurrence.{occurs, occurrences}
@@ -45,6 +45,10 @@ rest-le j p x h = omega arith
 fitting : (s : tie.Start Inv-loop μ-loop) → ByteSizes (s .args .n) (length (now (s .args .text))) (s .args .b .0)
 fitting s = byte-sizes _ _ _ (s .pre .0) (s .args .b .0) (s .pre .1 .1 .1)
 
+-- the byte's first bit
+first-bit : (c : tie.After-place Inv-loop μ-loop) → c .place .result .0 ≡ 8 * c .before .before .before .before .before .args .b .0
+first-bit c = c .place .ensures ∙ mul-comm _ 8
+
 -- the link that is read first heads the chain of byte b
 head : (c : tie.After-shared-slice-known5 Inv-loop μ-loop)
     → let a = c .before .before .before .before .before .before .before .before .args in
@@ -72,14 +76,14 @@ from-mark c =
 inside : (c : tie.Else1 Inv-loop μ-loop)
     → let a = c .before .before .before .before .before .before .before .before .before .before .before .args in
     8 * a .b .0 + 1 - c .before .before .loop .next < 1 + a .n - a .m
-inside c = below-end _ _ _ (c .before .before .before .before .before .before .before .before .before .before .before .pre .0 .inside) (rw (c .before .before .before .before .before .before .place-at .ensures) at (c .if1 .left))
+inside c = below-end _ _ _ (c .before .before .before .before .before .before .before .before .before .before .before .pre .0 .inside) (rw (first-bit (c .before .before .before .before .before .before)) at (c .if1 .left))
 
 -- the comparison's answer
 stands : (c : tie.After-same Inv-loop μ-loop) (x : Bool) → c .same .result ≡ x
     → let a = c .before .before .before .before .before .before .before .before .before .before .before .before .args in
     occurs (textOf (now (a .text)) (a .n)) (patternOf (now (a .word)) (a .m)) (8 * a .b .0 + 1 - c .before .before .before .loop .next) ≡ x
 stands c x e =
-    let top = c .before .before .before .before .before .before .before .place-at .ensures in
+    let top = first-bit (c .before .before .before .before .before .before .before) in
     compared-place _ _ _ _ _ x (rw top at (c .same .ensures)) e (inside (c .before))
 
 -- the link's cell is one of the table's
@@ -92,11 +96,14 @@ linked c =
     cell : (j k m l : ℕ) → j ≤ k → k + 7 ≤ m → 256 + m ≤ l → 255 + j < l
     cell j k m l h g r = omega arith
 
-place-at-requires : tie.Need-place-at-requires Inv-loop μ-loop
-place-at-requires c κs = (fitting (c .before .before .before .before) .small, lit< tt)
+place-requires : tie.Need-place-requires Inv-loop μ-loop
+place-requires c κs = fitting (c .before .before .before .before) .small
 
 cast-top : tie.Need-cast-top Inv-loop μ-loop
-cast-top c = record { fits = rw (c .before .place-at .ensures) (fitting (c .before .before .before .before .before .before) .top-wide) }
+cast-top c = record { fits = rw (first-bit (c .before)) (fitting (c .before .before .before .before .before .before) .first) }
+
+add-top : tie.Need-add-top Inv-loop μ-loop
+add-top c = record { fits = rw (first-bit (c .before)) (fitting (c .before .before .before .before .before .before) .top-wide) }
 
 sub-end : tie.Need-sub-end Inv-loop μ-loop
 sub-end c = c .before .before .before .before .before .before .pre .0 .inside
@@ -132,16 +139,16 @@ loop-holds c =
     )
 
 sub-p : tie.Need-sub-p Inv-loop μ-loop
-sub-p c = rw (c .before .before .before .before .before .place-at .ensures) (part-le _ _ _ (from-mark (c .before) .1))
+sub-p c = rw (first-bit (c .before .before .before .before .before)) (part-le _ _ _ (from-mark (c .before) .1))
 
 cast-p : tie.Need-cast-p Inv-loop μ-loop
-cast-p c = record { fits = rw (c .before .before .before .before .before .place-at .ensures) (fitting (c .before .before .before .before .before .before .before .before .before .before) .less _) }
+cast-p c = record { fits = rw (first-bit (c .before .before .before .before .before)) (fitting (c .before .before .before .before .before .before .before .before .before .before) .less _) }
 
 same-requires : tie.Need-same-requires Inv-loop μ-loop
 same-requires c κs =
     let s = c .before .before .before .before .before .before .before .before .before .before .before in
     let g = s .pre .0 .pattern in
-    let top = c .before .before .before .before .before .before .place-at .ensures in
+    let top = first-bit (c .before .before .before .before .before .before) in
     ((g .some-bits, g .few-bits, rw top (place-fits _ (s .args .n) (s .args .m) (2 ^ 30) (inside c) (s .pre .0 .few-bits))), s .pre .1 .0)
 
 same-length : tie.Need-same-length Inv-loop μ-loop
@@ -160,7 +167,7 @@ returns c =
     let last : lastByte w p ≡ b = mark-byte b (a .m) (s .pre .1 .1 .0) long in
     let low = from-mark (c .before .before .before .before .before) .1 in
     let found = stands (c .before .before) _ (c .before .if2 .taken) in
-    rw (c .before .before .before .before .before .before .before .before .before .place-at .ensures)
+    rw (first-bit (c .before .before .before .before .before .before .before .before .before))
     (skip-full t w p (now (a .list)) (a .had) (l .list) (l .written) (8 * b + 1 - l .next) (l .inv .1) long (s .pre .1 .1 .2)
     (rest-le _ _ _ low) (rw last (below-top (8 * b + 1) (l .next) (some (c .before .before .before .before .loop-test .taken)) (part-le _ _ _ low))) found (c .if3 .taken))
 
@@ -208,7 +215,7 @@ loop-again c =
     let link : lastShown w B (l .next - 1) ≤ getD cells (255 + l .next) 0 = omega (arith, headed-link w cells tables B 0 (l .next) (l .inv .0) more) in (
       headed-more w cells tables B 0 (l .next) (l .inv .0) more,
       ⊎-elim
-          (λ u. rw (u .2, u .3, c .before .before .before .before .before .before .before .before .before .place-at .ensures)
+          (λ u. rw (u .2, u .3, first-bit (c .before .before .before .before .before .before .before .before .before))
           (written-more t w p (now (a .list)) (a .had) (l .list) (l .written) (8 * b + 1 - l .next) (l .inv .1) _
           (walk-found t w b p (l .next) fits low _ less link (stands (c .before .before) _ (u .0 .taken))) (u .1 .left)))
           (λ u. rw (u .1, u .2, walk-by t w b p (l .next) fits low _ less link (stands (c .before .before) _ (u .0 .left))) (l .inv .1))
@@ -216,7 +223,7 @@ loop-again c =
     )
 
 cast-cut : tie.Need-cast-cut Inv-loop μ-loop
-cast-cut c = record { fits = rw (c .before .before .before .before .before .place-at .ensures) (fitting (c .before .before .before .before .before .before .before .before .before .before) .top) }
+cast-cut c = record { fits = rw (first-bit (c .before .before .before .before .before)) (fitting (c .before .before .before .before .before .before .before .before .before .before) .top) }
 
 cut-requires : tie.Need-cut-requires Inv-loop μ-loop
 cut-requires c κs = search needs
@@ -230,7 +237,7 @@ outside : (c : tie.Left-loop Inv-loop μ-loop)
     c .before .loop .next ≤ 8 * a .b .0 + 1 - (1 + a .n - a .m)
 outside c =
     let s = c .before .before .before .before .before .before .before .before .before .before in
-    ⊎-elim (λ u. omega (arith, u .left)) (λ u. from-end _ _ _ _ (s .pre .0 .inside) (part-le _ _ _ (from-mark (c .before) .1)) (rw (c .before .before .before .before .before .place-at .ensures) at (u .1 .taken))) (c .loop-test .came)
+    ⊎-elim (λ u. omega (arith, u .left)) (λ u. from-end _ _ _ _ (s .pre .0 .inside) (part-le _ _ _ (from-mark (c .before) .1)) (rw (first-bit (c .before .before .before .before .before)) at (u .1 .taken))) (c .loop-test .came)
 
 returns-2 : tie.Need-returns-2 Inv-loop μ-loop
 returns-2 c =
@@ -247,7 +254,7 @@ returns-2 c =
     let fits : 8 * b + 8 ≤ p + a .m = omega (arith, chained-fits (a .m) long) in
     skip-whole t w p (now (a .list)) (a .had) (l .list) (l .written) (8 * b + 1 - l .next) (l .inv .1) _ long
     (rw last (walk-end t w b p (l .next) fits low (outside (c .before))))
-    (rw last (rw (c .before .before .before .before .before .before .place-at .ensures) at (c .cut .ensures) ∙ ap (min (8 * b + 1)) (sym (places-some t w (s .pre .0 .inside)))))
+    (rw last (rw (first-bit (c .before .before .before .before .before .before)) at (c .cut .ensures) ∙ ap (min (8 * b + 1)) (sym (places-some t w (s .pre .0 .inside)))))
 
 pub chain-spec : {M : Type 1} → statement M
 chain-spec =
@@ -255,8 +262,9 @@ chain-spec =
     (tie.spec
     Inv-loop
     μ-loop
-    place-at-requires
+    place-requires
     cast-top
+    add-top
     sub-end
     add-end
     shared-slice-read-next
