@@ -5,3 +5,4 @@ mod cells;
 mod eight;
 mod lists;
 mod scan;
+mod version;

@@ -1,0 +1,10 @@
+// The version of the interface, in the function's name: a program that is compiled for one version links with no other.
+ghost use mathlib.Core.Path.{_≡_};
+
+// The version as a number: major × 10,000 + minor × 100 + patch.
+#[no_mangle]
+pub extern "C" fn mitongory_version_0_2() -> u32
+    ensures { λ r. ⌜ r ≡ 200 ⌝ }
+{
+    200
+}
