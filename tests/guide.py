@@ -1,0 +1,239 @@
+#!/usr/bin/env python3
+"""Runs every example of docs/GUIDE.md: what stands in a fenced block is held to the library, to the program `hits` or to
+document 01's rules. Each kind of block has a function below; a block of another kind, or with a line that no function reads,
+is a failure. Prints one line with the number of checks, or what differs and exits with 1.
+
+usage: guide.py [GUIDE]"""
+
+import ctypes
+import os
+import re
+import subprocess
+import sys
+import tempfile
+
+ROOT = os.path.dirname(os.path.dirname(os.path.abspath(__file__)))
+GUIDE = os.path.join(ROOT, "docs", "GUIDE.md")
+ARCHIVE = os.path.join(ROOT, "target", "lib", "libmitongory.a")
+HITS = os.path.join(ROOT, "target", "bin")
+METHODS = ["plain", "hash", "skip", "wide"]
+STOPS = ["done", "full", "spent"]
+ALL = 2**32 - 1
+SECONDS = 60
+
+checks = 0
+
+
+def check(said, expected, where):
+    global checks
+    checks += 1
+    if said != expected:
+        sys.exit("tests/guide.py: %s\n  the guide has: %s\n  right is:      %s" % (where, expected, said))
+
+
+# ---- the library, as a shared object made of the archive
+
+
+def load(folder):
+    shared = os.path.join(folder, "mitongory.so")
+    whole = ["-Wl,--whole-archive", ARCHIVE, "-Wl,--no-whole-archive"]
+    subprocess.run(["gcc", "-shared", "-o", shared] + whole, check=True, timeout=SECONDS)
+    return ctypes.CDLL(shared)
+
+
+def pack(bits):
+    padded = bits + "0" * (-len(bits) % 8)
+    return bytes(int(padded[i : i + 8], 2) for i in range(0, len(padded), 8))
+
+
+def cells(kind, values):
+    return (kind * max(len(values), 1))(*values), ctypes.c_size_t(len(values))
+
+
+class Library:
+    def __init__(self, folder):
+        self.calls = load(folder)
+
+    def search(self, text, pattern, method, mark, budget, room):
+        """A refusal's number, or steps, places, mark and stop."""
+        run = lambda bits: cells(ctypes.c_uint8, pack(bits)) + (ctypes.c_uint64(len(bits)),)
+        places = cells(ctypes.c_uint32, [7] * room)
+        answer = cells(ctypes.c_uint64, [0] * 4)
+        numbers = [ctypes.c_uint32(x) for x in (METHODS.index(method), mark, budget)]
+        scratch = cells(ctypes.c_uint64, [5] * 4224)
+        said = self.calls.mitongory_search(*run(text), *run(pattern), *numbers, *places, *scratch, *answer)
+        if said != 0:
+            return said
+        steps, count, mark, stop = answer[0]
+        return steps, list(places[0])[:count], mark, STOPS[stop]
+
+    def hash_value(self, pattern, value):
+        answer = cells(ctypes.c_uint64, [0])
+        bits = cells(ctypes.c_uint8, pack(pattern)) + (ctypes.c_uint64(len(pattern)),)
+        said = self.calls.mitongory_hash_value(*bits, ctypes.c_uint8(value), *answer)
+        return answer[0][0] if said == 0 else "refused %d" % said
+
+    def write(self, positions):
+        target, answer = cells(ctypes.c_uint8, [0] * 64), cells(ctypes.c_uint64, [0])
+        said = self.calls.mitongory_list_write(*cells(ctypes.c_uint32, positions), *target, *answer)
+        return bytes(target[0][: answer[0][0]]) if said == 0 else said
+
+    def read(self, file, room):
+        target, answer = cells(ctypes.c_uint32, [0] * room), cells(ctypes.c_uint64, [0])
+        said = self.calls.mitongory_list_read(*cells(ctypes.c_uint8, file), *target, *answer)
+        return list(target[0])[: answer[0][0]] if said == 0 else said
+
+
+def counted(count, word):
+    return "%d %s%s" % (count, word, "" if count == 1 else "s")
+
+
+# ---- one function for each kind of block
+
+
+def packed(block, where):
+    """Bytes in hexadecimal and their bits; how many of them count, and those."""
+    rows = dict((line.split()[0], line.split()[1:]) for line in block)
+    check(["{:08b}".format(int(b, 16)) for b in rows["value"]], rows["bits"], where)
+    check("".join(rows["bits"])[: int(rows["count"][0])], rows["string"][0], where)
+
+
+CALL = re.compile(r"^(\w+) +mark (\d+) +budget (\w+) +cells (\d+) +-> +(.*)$")
+
+
+def calls(block, where):
+    """A text, a pattern, and calls with their answers."""
+    text, pattern = (line.split()[1] for line in block[:2])
+    for line in block[2:]:
+        method, mark, budget, room, answer = CALL.match(line).groups()
+        budget = ALL if budget == "all" else int(budget)
+        said = library.search(text, pattern, method, int(mark), budget, int(room))
+        if isinstance(said, int):
+            check("refused %d" % said, answer, where)
+            continue
+        steps, places, mark, stop = said
+        listed = " ".join(map(str, places)) or "none"
+        check("%s, %s, mark %d, places %s" % (stop, counted(steps, "step"), mark, listed), " ".join(answer.split()), where)
+
+
+def steps(block, where, method):
+    """A text, the pattern drawn at each mark that the method comes to, with what the step there finds."""
+    text = block[0].split()[1]
+    column = block[0].index(text)
+    pattern = block[1].split()[1]
+    mark, room = 0, len(text) + 1
+    for line in block[1:]:
+        _, places, moved, stop = library.search(text, pattern, method, mark, 1, room)
+        found = " finds " + " ".join(map(str, places)) if places else ""
+        drawn = " " * mark + pattern
+        check(("%*d" % (column - 2, mark)) + "  " + drawn + found, re.sub(r"  +finds", " finds", line.rstrip()), where)
+        mark = moved
+    check(stop, "done", where + ", the step after the last one drawn")
+
+
+def rows(block, where):
+    """A pattern's shifted rows and masks, by document 01's rule."""
+    pattern = block[0].split()[1]
+    for line in block[1:]:
+        name, i, row, word, mask = re.match(r"^(row) (\d) +([01 ]+?) +(mask) +([01 ]+)$", line).groups()
+        i, m = int(i), len(pattern)
+        at = [8 * h - i + j for h in range((m + i + 7) // 8) for j in range(8)]
+        check("".join(pattern[k] if 0 <= k < m else "0" for k in at), row.replace(" ", ""), where)
+        check("".join("1" if 0 <= k < m else "0" for k in at), mask.replace(" ", ""), where)
+
+
+def hash_values(block, where):
+    """A pattern, and H of some values."""
+    pattern = block[0].split()[1]
+    for line in block[1:]:
+        value, move = re.match(r"^H\(([01]{8})\) = (.*)$", line).groups()
+        check(str(library.hash_value(pattern, int(value, 2))), move, where)
+
+
+def files(block, where):
+    """A list's file both ways, or what a reader with so many cells says of bytes."""
+    for line in block:
+        written = re.match(r"^list (.*?) +-> ([0-9a-f ]+|refused \d+)$", line)
+        if written:
+            positions = [] if written[1] == "(empty)" else [int(p) for p in written[1].split()]
+            said = library.write(positions)
+            check("refused %d" % said if isinstance(said, int) else said.hex(" "), written[2], where)
+            if not isinstance(said, int):
+                check(library.read(said, max(len(said) - 1, 0)), positions, where)
+            continue
+        file, room, answer = re.match(r"^bytes ([0-9a-f ]+?) +cells (\d+) +-> (.*)$", line).groups()
+        said = library.read(bytes.fromhex(file), int(room))
+        check("refused %d" % said if isinstance(said, int) else "list " + " ".join(map(str, said)), answer, where)
+
+
+def program(block, where, folder, printed):
+    """A C program, and what it prints."""
+    source, binary = os.path.join(folder, "guide.c"), os.path.join(folder, "guide")
+    with open(source, "w") as f:
+        f.write("\n".join(block) + "\n")
+    strict = ["-std=c99", "-Wall", "-Wextra", "-pedantic", "-Werror", "-I" + os.path.join(ROOT, "include")]
+    subprocess.run(["gcc"] + strict + [source, ARCHIVE, "-o", binary], check=True, timeout=SECONDS)
+    done = subprocess.run([binary], stdout=subprocess.PIPE, timeout=SECONDS, check=True)
+    check(done.stdout.decode().splitlines(), printed, where)
+
+
+def console(block, where):
+    """Commands after `$ `, each with what it prints."""
+    at = 0
+    while at < len(block):
+        command, at = block[at], at + 1
+        expected = []
+        while at < len(block) and not block[at].startswith("$ "):
+            expected.append(block[at])
+            at += 1
+        path = HITS + os.pathsep + os.environ["PATH"]
+        done = subprocess.run(
+            ["bash", "-c", command[2:]], stdout=subprocess.PIPE, timeout=SECONDS, cwd=ROOT, env=dict(os.environ, PATH=path)
+        )
+        check((done.returncode, done.stdout.decode().splitlines()), (0, expected), where)
+
+
+def blocks(page):
+    """Each fenced block: the line that it starts on, its kind and its lines."""
+    lines = page.split("\n")
+    start = None
+    for i, line in enumerate(lines):
+        if not line.startswith("```"):
+            continue
+        if start is None:
+            start = i
+        else:
+            yield start + 1, lines[start][3:].split(), lines[start + 1 : i]
+            start = None
+    if start is not None:
+        sys.exit("tests/guide.py: the block of line %d has no end" % (start + 1))
+
+
+def main():
+    global library
+    page = open(sys.argv[1] if len(sys.argv) > 1 else GUIDE, encoding="utf-8").read()
+    with tempfile.TemporaryDirectory() as folder:
+        library = Library(folder)
+        pending = None
+        for number, kind, block in blocks(page):
+            where = "line %d" % number
+            simple = {"packed": packed, "calls": calls, "rows": rows, "hash": hash_values, "file": files, "console": console}
+            if pending and kind != ["output"]:
+                sys.exit("tests/guide.py: %s: the program before has no output block" % where)
+            if len(kind) == 1 and kind[0] in simple:
+                simple[kind[0]]([line for line in block if line], where)
+            elif kind[:1] == ["steps"]:
+                steps(block, where, kind[1])
+            elif kind == ["c"]:
+                pending = block
+            elif kind == ["output"]:
+                program(pending, where, folder, block)
+                pending = None
+            elif kind != ["rust"]:  # those are run as examples of the Rust crate's documentation
+                sys.exit("tests/guide.py: %s: no test runs a block of the kind '%s'" % (where, " ".join(kind)))
+        if pending:
+            sys.exit("tests/guide.py: the last program has no output block")
+    print("guide: %d checks" % checks)
+
+
+main()
