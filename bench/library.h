@@ -12,6 +12,6 @@ static inline void library_search(const uint8_t *text, uint64_t n, const uint8_t
     uint64_t a[MITONGORY_ANSWER_CELLS] = {0};
     uint32_t refused = mitongory_search(text, (n + 7) / 8, n, word, (m + 7) / 8, m, method, mark, budget, list, cells, scratch,
                                         CELLS, a, MITONGORY_ANSWER_CELLS);
-    *out = (struct answer){refused, a[MITONGORY_STEPS], a[MITONGORY_HITS], a[MITONGORY_MARK], a[MITONGORY_STOP]};
+    *out = (struct answer){refused, a[MITONGORY_STEPS], a[MITONGORY_OCCURRENCES], a[MITONGORY_MARK], a[MITONGORY_STOP]};
 }
 #endif

@@ -1,19 +1,24 @@
 /*
- * Searches the course's two papers through include/mitongory.h. Build and run, after `rt staticlib capi`:
+ * Searches the course's two papers through mitongory.h. Build and run it after `make lib` by
  *
- *     cc -Iinclude examples/find.c target/staticlib/libcapi.a -o target/find && target/find
+ *     cc -Iinclude examples/find.c target/lib/libmitongory.a -o target/find && target/find
+ *
+ * or after `make install` by
+ *
+ *     cc examples/find.c $(pkg-config --cflags --libs mitongory) -o find && ./find
  */
 #include <inttypes.h>
+#include <mitongory.h>
 #include <stdint.h>
 #include <stdio.h>
 #include <string.h>
 
-#include "mitongory.h"
+#define CELLS 36
 
-static const char *const R1 = "011001001000100110100101000101001001";
-static const char *const V1 = "0100110100";
-static const char *const R2 = "110010110010110010110010110010110";
-static const char *const V2 = "110010110010110010110";
+static const char *const text1 = "011001001000100110100101000101001001";
+static const char *const pattern1 = "0100110100";
+static const char *const text2 = "110010110010110010110010110010110";
+static const char *const pattern2 = "110010110010110010110";
 
 static const char *const methods[] = {"plain", "hash", "skip", "wide"};
 static const char *const stops[] = {"done", "full", "spent"};
@@ -34,59 +39,70 @@ static uint64_t pack(const char *bits, uint8_t *bytes)
     return i;
 }
 
+static void print_places(const uint32_t *list, uint64_t count)
+{
+    uint64_t i;
+    for (i = 0; i < count; i++)
+        printf(" %" PRIu32, list[i]);
+    printf("\n");
+}
+
+/* Says why a call was refused; the exit status. */
+static int refused(const char *what, uint32_t refusal)
+{
+    printf("%s: refused, number %" PRIu32 ": %s\n", what, refusal, mitongory_result_text(refusal));
+    return 1;
+}
+
 int main(void)
 {
-    uint8_t text[8] = {0}, word[8] = {0}, file[8] = {0};
-    uint32_t list[36] = {0}, mark = 0, all = 0, method, refusal;
+    uint8_t text[8] = {0}, pattern[8] = {0}, file[8] = {0};
+    uint32_t list[CELLS] = {0}, mark = 0, all = 0, method, result;
     uint64_t answer[MITONGORY_ANSWER_CELLS] = {0}, n, m, i;
 
-    /* Every method on the first paper, with cells for all places. */
-    n = pack(R1, text);
-    m = pack(V1, word);
+    /* Every method on the first paper, with cells for all occurrences. */
+    n = pack(text1, text);
+    m = pack(pattern1, pattern);
     for (method = MITONGORY_PLAIN; method <= MITONGORY_WIDE; method++) {
-        refusal = mitongory_search(text, sizeof text, n, word, sizeof word, m, method, 0, UINT32_MAX, list, 36, scratch,
-                                   MITONGORY_SCRATCH_CELLS, answer, MITONGORY_ANSWER_CELLS);
-        if (refusal != MITONGORY_OK) {
-            printf("%s: refused, number %" PRIu32 "\n", methods[method], refusal);
+        result = mitongory_search(text, sizeof text, n, pattern, sizeof pattern, m, method, 0, UINT32_MAX, list, CELLS,
+                                  scratch, MITONGORY_SCRATCH_CELLS, answer, MITONGORY_ANSWER_CELLS);
+        if (result != MITONGORY_OK) {
+            refused(methods[method], result);
             continue;
         }
         printf("%s: %s after %" PRIu64 " steps, places:", methods[method], stops[answer[MITONGORY_STOP]],
                answer[MITONGORY_STEPS]);
-        for (i = 0; i < answer[MITONGORY_HITS]; i++)
-            printf(" %" PRIu32, list[i]);
-        printf("\n");
+        print_places(list, answer[MITONGORY_OCCURRENCES]);
     }
 
     /* The second paper with one cell: each call goes on from the mark that the call before it left. */
-    n = pack(R2, text);
-    m = pack(V2, word);
+    n = pack(text2, text);
+    m = pack(pattern2, pattern);
     do {
         uint32_t cell = 0;
-        refusal = mitongory_search(text, sizeof text, n, word, sizeof word, m, MITONGORY_HASH, mark, UINT32_MAX, &cell, 1,
-                                   scratch, MITONGORY_SCRATCH_CELLS, answer, MITONGORY_ANSWER_CELLS);
-        if (refusal != MITONGORY_OK)
-            return 1;
+        result = mitongory_search(text, sizeof text, n, pattern, sizeof pattern, m, MITONGORY_HASH, mark, UINT32_MAX, &cell,
+                                  1, scratch, MITONGORY_SCRATCH_CELLS, answer, MITONGORY_ANSWER_CELLS);
+        if (result != MITONGORY_OK)
+            return refused("one cell", result);
         mark = (uint32_t)answer[MITONGORY_MARK];
-        if (answer[MITONGORY_HITS] == 1)
+        if (answer[MITONGORY_OCCURRENCES] == 1)
             list[all++] = cell;
         printf("one cell: place %" PRIu32 ", %s, mark %" PRIu32 "\n", cell, stops[answer[MITONGORY_STOP]], mark);
     } while (answer[MITONGORY_STOP] != MITONGORY_DONE);
 
     /* The places as a position list file, and read back. */
-    refusal = mitongory_list_write(list, all, file, sizeof file, answer, 1);
-    if (refusal != MITONGORY_OK)
-        return 1;
+    result = mitongory_list_write(list, all, file, sizeof file, answer, 1);
+    if (result != MITONGORY_OK)
+        return refused("write", result);
     printf("file:");
     for (i = 0; i < answer[0]; i++)
         printf(" %02x", file[i]);
     printf("\n");
     memset(list, 0, sizeof list);
-    refusal = mitongory_list_read(file, (size_t)answer[0], list, 36, answer, 1);
-    if (refusal != MITONGORY_OK)
-        return 1;
+    result = mitongory_list_read(file, (size_t)answer[0], list, CELLS, answer, 1);
+    if (result != MITONGORY_OK)
+        return refused("read", result);
     printf("read back:");
-    for (i = 0; i < answer[0]; i++)
-        printf(" %" PRIu32, list[i]);
-    printf("\n");
+    print_places(list, answer[0]);
     return 0;
 }

@@ -1,23 +1,61 @@
 /*
- * Mitongory: exact search for a word of bits in a packed recording, in four ways, and a file format for the lists.
+ * Mitongory: exact search for a pattern of bits in a text of packed bits, by four methods, and a file format for lists of
+ * positions.
  *
- * The calls of the static library libcapi.a, which `rt staticlib capi` makes for x86-64 Linux. It needs the C library and
- * nothing else.
+ * These are the calls of the static library libmitongory.a for x86-64 Linux, which needs the C library and nothing else.
+ * `make lib` builds it and `make install` installs it. A program is then built by
  *
- * Every call takes any numbers and buffers of any length, and returns 0 (MITONGORY_OK) or the number of a refusal, the
- * first in the order given at the call. A refused call changes nothing. An accepted call writes what it tells to the
- * first cells of `answer` and leaves the others. What each call returns, and what every buffer holds afterwards, is
- * proved for every input (crates/capi/specs); these declarations are checked by no proof, only by tests.
+ *     cc program.c $(pkg-config --cflags --libs mitongory)
+ *
+ * Example. It lists every occurrence with a list of two cells: a call goes on where the call before it stopped.
+ *
+ *     #include <stdio.h>
+ *     #include <mitongory.h>
+ *
+ *     int main(void)
+ *     {
+ *         static const uint8_t text[] = {0xcb, 0x2c, 0xb2, 0xcb, 0x00}; // 33 bits: 110010 five times, then 110
+ *         static const uint8_t pattern[] = {0xcb, 0x2c, 0xb0};          // 21 bits: 110010 three times, then 110
+ *         static uint64_t scratch[MITONGORY_SCRATCH_CELLS];
+ *         uint64_t answer[MITONGORY_ANSWER_CELLS] = {0}, i;
+ *         uint32_t list[2] = {0}, mark = 0, result;
+ *
+ *         do {
+ *             result = mitongory_search(text, sizeof text, 33, pattern, sizeof pattern, 21, MITONGORY_HASH, mark,
+ *                                       UINT32_MAX, list, 2, scratch, MITONGORY_SCRATCH_CELLS, answer,
+ *                                       MITONGORY_ANSWER_CELLS);
+ *             if (result != MITONGORY_OK) {
+ *                 fprintf(stderr, "%s\n", mitongory_result_text(result));
+ *                 return 1;
+ *             }
+ *             for (i = 0; i < answer[MITONGORY_OCCURRENCES]; i++)
+ *                 printf("place %lu\n", (unsigned long)list[i]);
+ *             mark = (uint32_t)answer[MITONGORY_MARK];
+ *         } while (answer[MITONGORY_STOP] == MITONGORY_FULL);
+ *         return 0;
+ *     }
+ *
+ * It prints
+ *
+ *     place 0
+ *     place 6
+ *     place 12
+ *
+ * Results. Every call takes any numbers and buffers of any length, and returns 0 (MITONGORY_OK) or the number of a
+ * refusal, the first in the order given at the call. A refused call changes nothing. An accepted call writes its answer
+ * to the first cells of `answer` and leaves the others. What each call returns, and what every buffer holds afterwards, is
+ * proved for every input (crates/capi/specs). These declarations are checked by no proof, only by tests.
  *
  * Buffers. A buffer is a pointer and then its length in elements (not in bytes). The caller sees to it that
  *   - a buffer of length k has k elements at the pointer, aligned for their type, readable, and writable where the
- *     pointer is not const, in at most 2^63 - 1 bytes; with length 0 nothing is read or written through the pointer, and
- *     it may be anything, NULL too;
+ *     pointer is not const, in at most 2^63 - 1 bytes;
  *   - every element is initialized, with any value: no call trusts what it finds in a buffer that it writes;
  *   - a buffer that is written (the pointer is not const) overlaps no other buffer of the same call; two that are only
  *     read may overlap or be the same;
- *   - nothing else, as another thread or a signal handler, writes to a buffer, or reads one that is written, until the
- *     call returns.
+ *   - nothing else, such as another thread or a signal handler, writes to a buffer, or reads one that is written, until
+ *     the call returns.
+ * With length 0 the pointer may be anything, NULL too: the library forms an address from a pointer only where an index is
+ * below the length, so it reads and writes nothing there.
  * Nothing outside the buffers is read or written. No call keeps a pointer, allocates memory or has state of its own, so
  * calls on separate buffers may run at the same time.
  *
@@ -34,6 +72,30 @@
 extern "C" {
 #endif
 
+/* The version of this header. */
+#define MITONGORY_VERSION_MAJOR 0
+#define MITONGORY_VERSION_MINOR 2
+#define MITONGORY_VERSION_PATCH 0
+#define MITONGORY_VERSION_NUMBER \
+    (MITONGORY_VERSION_MAJOR * 10000 + MITONGORY_VERSION_MINOR * 100 + MITONGORY_VERSION_PATCH)
+#define MITONGORY_VERSION "0.2.0"
+
+/*
+ * The version of the library, as a number. The name holds the version of the interface, so that a program that was
+ * compiled for one interface links with no other.
+ */
+uint32_t mitongory_version_0_2(void);
+
+static inline uint32_t mitongory_version(void)
+{
+    return mitongory_version_0_2();
+}
+
+#ifdef __GNUC__
+/* Every program refers to the function, also one that never asks for the version. */
+static uint32_t (*const mitongory_version_needed)(void) __attribute__((used)) = mitongory_version_0_2;
+#endif
+
 /* The cells that a search needs in `scratch`, and in `answer`. The other calls need one answer cell. */
 #define MITONGORY_SCRATCH_CELLS 4224
 #define MITONGORY_ANSWER_CELLS 4
@@ -42,83 +104,109 @@ extern "C" {
 enum mitongory_result {
     MITONGORY_OK = 0,
     MITONGORY_TEXT_TOO_LONG = 1,         /* n above 2^30 */
-    MITONGORY_TEXT_BYTES_MISSING = 2,    /* fewer bytes than n bits take */
-    MITONGORY_WORD_LENGTH = 3,           /* m is 0 or above 2048 */
-    MITONGORY_WORD_BYTES_MISSING = 4,    /* fewer bytes than m bits take */
-    MITONGORY_WORD_TOO_SHORT = 5,        /* m below 8 for hash and H, below 15 for skip */
-    MITONGORY_MARK_BEYOND_PLACES = 6,    /* mark above the number of places; eight bits: place + 8 above n */
+    MITONGORY_TEXT_BYTES_MISSING = 2,    /* fewer text bytes than n bits take */
+    MITONGORY_PATTERN_LENGTH = 3,        /* m is 0 or above 2048 */
+    MITONGORY_PATTERN_BYTES_MISSING = 4, /* fewer pattern bytes than m bits take */
+    MITONGORY_PATTERN_TOO_SHORT = 5,     /* m below 8 for hash and H, below 15 for skip */
+    MITONGORY_BEYOND_END = 6,            /* mark above the number of places; for eight bits, fewer than eight follow */
     MITONGORY_SCRATCH_TOO_SHORT = 7,     /* fewer than MITONGORY_SCRATCH_CELLS cells */
     MITONGORY_LIST_NOT_RISING = 8,       /* positions not strictly rising, or one is 2^30 or more */
     MITONGORY_TARGET_TOO_SHORT = 9,      /* fewer target bytes than the list's file has */
-    MITONGORY_FILE_ENDS_EARLY = 10,
+    MITONGORY_FILE_ENDS_EARLY = 10,      /* the file ends early */
     MITONGORY_NUMBER_NOT_SHORTEST = 11,  /* a number of the file is not in the fewest groups */
     MITONGORY_NUMBER_TOO_LARGE = 12,     /* a number above 2^30, or a position of 2^30 or more */
-    MITONGORY_BYTES_LEFT_OVER = 13,
+    MITONGORY_BYTES_LEFT_OVER = 13,      /* bytes are left over after the list */
     MITONGORY_CELLS_MISSING = 14,        /* fewer cells than the file's count */
     MITONGORY_UNKNOWN_METHOD = 100,      /* the method is none of enum mitongory_method */
     MITONGORY_ANSWER_CELLS_MISSING = 101 /* fewer answer cells than the call needs */
 };
 
-/* The four ways to search. They find the same places; their steps differ. */
+/* A sentence that says what a result means, for any number; never NULL. */
+static inline const char *mitongory_result_text(uint32_t result)
+{
+    switch (result) {
+    case MITONGORY_OK: return "The call was accepted.";
+    case MITONGORY_TEXT_TOO_LONG: return "The text has more than 2^30 bits.";
+    case MITONGORY_TEXT_BYTES_MISSING: return "The text has fewer bytes than its bits take.";
+    case MITONGORY_PATTERN_LENGTH: return "The pattern has no bits, or more than 2048.";
+    case MITONGORY_PATTERN_BYTES_MISSING: return "The pattern has fewer bytes than its bits take.";
+    case MITONGORY_PATTERN_TOO_SHORT: return "The pattern is too short: hash and H need 8 bits, skip needs 15.";
+    case MITONGORY_BEYOND_END: return "The mark is above the number of places, or fewer than eight bits follow the place.";
+    case MITONGORY_SCRATCH_TOO_SHORT: return "The scratch has fewer than 4224 cells.";
+    case MITONGORY_LIST_NOT_RISING: return "The positions do not rise strictly, or one is 2^30 or more.";
+    case MITONGORY_TARGET_TOO_SHORT: return "The target has fewer bytes than the list's file.";
+    case MITONGORY_FILE_ENDS_EARLY: return "The file ends early.";
+    case MITONGORY_NUMBER_NOT_SHORTEST: return "A number of the file is not in the fewest groups.";
+    case MITONGORY_NUMBER_TOO_LARGE: return "A number of the file is above 2^30, or a position is 2^30 or more.";
+    case MITONGORY_BYTES_LEFT_OVER: return "Bytes are left over after the list.";
+    case MITONGORY_CELLS_MISSING: return "There are fewer cells than the file's count.";
+    case MITONGORY_UNKNOWN_METHOD: return "The method is none of the four.";
+    case MITONGORY_ANSWER_CELLS_MISSING: return "There are fewer answer cells than the call needs.";
+    default: return "No call returns this number.";
+    }
+}
+
+/* The four methods of a search. They find the same places; their steps differ. */
 enum mitongory_method {
     MITONGORY_PLAIN = 0,
-    MITONGORY_HASH = 1,
-    MITONGORY_SKIP = 2,
+    MITONGORY_HASH = 1, /* for patterns of 8 bits or more */
+    MITONGORY_SKIP = 2, /* for patterns of 15 bits or more */
     MITONGORY_WIDE = 3
 };
 
 /* The answer cells of an accepted search. */
 enum mitongory_answer {
-    MITONGORY_STEPS = 0, /* steps made, at most the budget */
-    MITONGORY_HITS = 1,  /* places written to the front of the list */
-    MITONGORY_MARK = 2,  /* the first place that is not yet decided: where the next call goes on */
-    MITONGORY_STOP = 3   /* one of enum mitongory_stop */
+    MITONGORY_STEPS = 0,       /* steps made, at most the budget */
+    MITONGORY_OCCURRENCES = 1, /* how many places were written to the front of the list */
+    MITONGORY_MARK = 2,        /* the first place that is not yet decided: where the next call goes on */
+    MITONGORY_STOP = 3         /* one of enum mitongory_stop */
 };
 
 /* How an accepted search stopped. */
 enum mitongory_stop {
     MITONGORY_DONE = 0, /* every place is decided */
-    MITONGORY_FULL = 1, /* a further place stands at the mark, and the list had no free cell for it */
+    MITONGORY_FULL = 1, /* a further occurrence is at the mark, and the list had no free cell for it */
     MITONGORY_SPENT = 2 /* the budget of steps is spent */
 };
 
 /*
- * Lists, from the mark on and rising, the places where the first m bits of `word` stand in the first n bits of `text`, as
- * far as the budget of steps and the cells of the list go. A fresh mark is 0; a later call goes on from
- * answer[MITONGORY_MARK]. A place is found whole before n; places may overlap.
+ * Lists, from the mark on and rising, the occurrences of the first m bits of `pattern` in the first n bits of `text`, as
+ * far as the budget of steps and the cells of the list go. A first call has the mark 0; a later one goes on from
+ * answer[MITONGORY_MARK]. An occurrence is a place from which all m bits of the pattern stand in the text, before bit n.
+ * Occurrences may overlap. No search makes more than 2^30 steps, so a budget of UINT32_MAX is never spent.
  *
- *   text, word   packed bits; there may be more bytes than the bit counts need, and what is in them never matters
- *   method       one of enum mitongory_method
- *   list         any length; the places found go to its front, the other cells stay
- *   scratch      at least MITONGORY_SCRATCH_CELLS cells with any content; after an accepted call the first
- *                MITONGORY_SCRATCH_CELLS hold nothing of use, and the others stay
- *   answer       at least MITONGORY_ANSWER_CELLS cells: steps, hits, mark, stop
+ *   text, pattern   packed bits; there may be more bytes than the bit counts need, and what is in them never matters
+ *   method          one of enum mitongory_method
+ *   list            any length; the places go to its front, and the other cells stay
+ *   scratch         at least MITONGORY_SCRATCH_CELLS cells with any content; after an accepted call the first
+ *                   MITONGORY_SCRATCH_CELLS hold nothing of use, and the others stay
+ *   answer          at least MITONGORY_ANSWER_CELLS cells: steps, occurrences, mark, stop
  *
  * Returns 0, or the first of 100, 101, 1, 2, 3, 4, 5, 6, 7 that applies.
  */
 uint32_t mitongory_search(const uint8_t *text, size_t text_len, uint64_t n,
-                          const uint8_t *word, size_t word_len, uint64_t m,
+                          const uint8_t *pattern, size_t pattern_len, uint64_t m,
                           uint32_t method, uint32_t mark, uint32_t budget,
                           uint32_t *list, size_t list_len,
                           uint64_t *scratch, size_t scratch_len,
                           uint64_t *answer, size_t answer_len);
 
 /*
- * The hash method's H(B) of the first m bits of `word` for an eight-bit value B: the least d from 0 to m such that bit
- * m - 8 - d + j of the word is bit j of B (bit 0 leftmost) for each j from 0 to 7 with m - 8 - d + j >= 0.
+ * The hash method's H(B) of the first m bits of `pattern` for an eight-bit value B: the least d from 0 to m such that bit
+ * m - 8 - d + j of the pattern is bit j of B (bit 0 leftmost) for each j from 0 to 7 with m - 8 - d + j >= 0.
  * answer[0] is H(B).
  *
  * Returns 0, or the first of 101, 3, 4, 5 that applies.
  */
-uint32_t mitongory_hash_value(const uint8_t *word, size_t word_len, uint64_t m, uint8_t value,
+uint32_t mitongory_hash_value(const uint8_t *pattern, size_t pattern_len, uint64_t m, uint8_t value,
                               uint64_t *answer, size_t answer_len);
 
 /*
- * The eight bits from bit number `place` on, of the first n bits of `bytes`. answer[0] is the byte, with that bit leftmost.
+ * The eight bits from bit number `place` on, of the first n bits of `text`. answer[0] is the byte, with that bit leftmost.
  *
  * Returns 0, or the first of 101, 1, 2, 6 that applies.
  */
-uint32_t mitongory_eight_bits(const uint8_t *bytes, size_t bytes_len, uint64_t n, uint32_t place,
+uint32_t mitongory_eight_bits(const uint8_t *text, size_t text_len, uint64_t n, uint32_t place,
                               uint64_t *answer, size_t answer_len);
 
 /*
@@ -129,7 +217,7 @@ uint32_t mitongory_eight_bits(const uint8_t *bytes, size_t bytes_len, uint64_t n
 uint32_t mitongory_list_size(const uint32_t *list, size_t list_len, uint64_t *answer, size_t answer_len);
 
 /*
- * Writes the file of a position list to the front of `target`; bytes behind it stay. answer[0] is the file's byte count.
+ * Writes the file of a position list to the front of `target`; the bytes after it stay. answer[0] is the file's byte count.
  *
  * Returns 0, or the first of 101, 8, 9 that applies.
  */
@@ -137,8 +225,9 @@ uint32_t mitongory_list_write(const uint32_t *list, size_t list_len, uint8_t *ta
                               uint64_t *answer, size_t answer_len);
 
 /*
- * Reads the position list of a whole file into the front of `cells`; cells behind it stay. answer[0] is the list's count.
- * Only what mitongory_list_write makes is accepted.
+ * Reads the position list of a whole file into the front of `cells`; the cells after it stay. answer[0] is the list's
+ * count. Only what mitongory_list_write makes is accepted. The count and each position take a byte or more, so file_len - 1
+ * cells are enough for every good file, and no cells for a file of one byte or none.
  *
  * Returns 0, or 101 first, or the first fault of the file from front to back, 10 to 14.
  */

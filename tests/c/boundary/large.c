@@ -1,0 +1,197 @@
+/* The largest text, and lengths of 33 bits. */
+#define _DEFAULT_SOURCE
+#include <mitongory.h>
+#include <string.h>
+#include <sys/mman.h>
+
+#include "bounds.h"
+#include "check.h"
+#include "lend.h"
+#include "papers.h"
+#include "parts.h"
+
+static uint64_t scratch[MITONGORY_SCRATCH_CELLS], answer[MITONGORY_ANSWER_CELLS];
+static uint32_t list[2];
+
+/* Zeros, of which only the pages that are touched take memory. */
+static void *zeros(size_t bytes, const char *otherwise)
+{
+    void *all = mmap(NULL, bytes, PROT_READ | PROT_WRITE, MAP_PRIVATE | MAP_ANONYMOUS | MAP_NORESERVE, -1, 0);
+    if (all == MAP_FAILED)
+        cannot(otherwise);
+    return all;
+}
+
+static int answer_is(uint64_t occurrences, uint64_t mark)
+{
+    return answer[MITONGORY_OCCURRENCES] == occurrences && answer[MITONGORY_MARK] == mark &&
+           answer[MITONGORY_STOP] == MITONGORY_DONE;
+}
+
+/* A search for one 1 in the largest text. */
+static uint32_t search_largest(const uint8_t *text, uint32_t method, uint32_t mark)
+{
+    static const uint8_t one[] = {0x80};
+    return mitongory_search(text, LARGEST_N / 8, LARGEST_N, one, 1, 1, method, mark, UINT32_MAX, list, 2, scratch,
+                            MITONGORY_SCRATCH_CELLS, answer, MITONGORY_ANSWER_CELLS);
+}
+
+/* 2^30 bits, all 0 but the last: its place is the largest there is. */
+static void largest_text(void)
+{
+    const size_t bytes = LARGEST_N / 8, page = page_size();
+    const uint32_t untouched = 7;
+    uint8_t *text = zeros(bytes + page, "there is no memory for a text of 2^30 bits");
+    about("the largest text");
+    text[bytes - 1] = 1;
+    if (mprotect(text, bytes, PROT_READ) != 0 || mprotect(text + bytes, page, PROT_NONE) != 0)
+        cannot("the pages of the largest text cannot be protected");
+    list[0] = list[1] = untouched;
+    check(search_largest(text, MITONGORY_WIDE, 0) == MITONGORY_OK, "result");
+    check(answer_is(1, LARGEST_N), "answer");
+    check(list[0] == LARGEST_N - 1 && list[1] == untouched, "list");
+    check(search_largest(text, MITONGORY_PLAIN, LARGEST_N) == MITONGORY_OK, "from the largest mark");
+    check(answer[MITONGORY_STEPS] == 0 && answer_is(0, LARGEST_N), "answer there");
+    check(search_largest(text, MITONGORY_PLAIN, LARGEST_N + 1) == MITONGORY_BEYOND_END, "after it");
+    check(mitongory_eight_bits(text, bytes, LARGEST_N, LARGEST_N - 8, answer, 1) == MITONGORY_OK && answer[0] == 1,
+          "eight bits");
+    check(mitongory_eight_bits(text, bytes, LARGEST_N, LARGEST_N - 7, answer, 1) == MITONGORY_BEYOND_END,
+          "eight bits past the end");
+    munmap(text, bytes + page);
+}
+
+/* ---- lengths that do not fit 32 bits: cut to them each would be 0 */
+
+static const size_t length = TWO_TO_32;
+
+/* So many zeros that they serve as any of the buffers, one after the other. */
+static void *huge;
+
+/* Makes the front of it 0 again. */
+static void clear(size_t bytes)
+{
+    memset(huge, 0, bytes);
+}
+
+/* Paper 1 by hash, with these buffers. */
+struct buffers {
+    const uint8_t *text, *pattern;
+    uint32_t *list;
+    uint64_t *scratch, *answer;
+    size_t text_len, pattern_len, list_len, scratch_len, answer_len;
+};
+
+static struct buffers small_buffers(void)
+{
+    struct buffers b = {paper1_text,          paper1_pattern, list, scratch, answer, PAPER1_TEXT_BYTES,
+                        PAPER1_PATTERN_BYTES, 2,              MITONGORY_SCRATCH_CELLS, MITONGORY_ANSWER_CELLS};
+    memset(answer, 0, sizeof answer);
+    memset(list, 0, sizeof list);
+    return b;
+}
+
+static uint32_t search_with(struct buffers b)
+{
+    return mitongory_search(b.text, b.text_len, PAPER1_N, b.pattern, b.pattern_len, PAPER1_M, MITONGORY_HASH, 0, UINT32_MAX,
+                            b.list, b.list_len, b.scratch, b.scratch_len, b.answer, b.answer_len);
+}
+
+static int finds(const struct buffers *b)
+{
+    return b->answer[MITONGORY_OCCURRENCES] == 1 && b->list[0] == PAPER1_OCCURRENCE && b->list[1] == 0;
+}
+
+static void long_searches(void)
+{
+    const uint64_t told[] = {5, 1, PAPER1_PLACES, MITONGORY_DONE, 0};
+    struct buffers b = small_buffers();
+    about("a search with a length of 33 bits");
+    memcpy(huge, paper1_text, sizeof paper1_text);
+    b.text = huge;
+    b.text_len = length;
+    check(search_with(b) == MITONGORY_OK, "text");
+    check(finds(&b), "the place in that text");
+    clear(sizeof paper1_text);
+
+    memcpy(huge, paper1_pattern, sizeof paper1_pattern);
+    b = small_buffers();
+    b.pattern = huge;
+    b.pattern_len = length;
+    check(search_with(b) == MITONGORY_OK, "pattern");
+    check(finds(&b), "the place of that pattern");
+    clear(sizeof paper1_pattern);
+
+    b = small_buffers();
+    b.list = huge;
+    b.list_len = length;
+    check(search_with(b) == MITONGORY_OK, "list");
+    check(finds(&b), "the place in that list");
+    clear(sizeof *b.list);
+
+    b = small_buffers();
+    b.scratch = huge;
+    b.scratch_len = length;
+    check(search_with(b) == MITONGORY_OK, "scratch");
+    check(finds(&b) && b.scratch[MITONGORY_SCRATCH_CELLS] == 0, "the place with that scratch");
+    clear(sizeof scratch);
+
+    b = small_buffers();
+    b.answer = huge;
+    b.answer_len = length;
+    check(search_with(b) == MITONGORY_OK, "answer");
+    check(finds(&b) && memcmp(b.answer, told, sizeof told) == 0, "what that answer holds");
+    clear(sizeof answer);
+}
+
+static void long_values(void)
+{
+    about("a value with a length of 33 bits");
+    memcpy(huge, paper1_text, sizeof paper1_text);
+    check(mitongory_eight_bits(huge, length, PAPER1_N, PAPER1_OCCURRENCE, answer, 1) == MITONGORY_OK &&
+              answer[0] == paper1_pattern[0],
+          "text of eight bits");
+    clear(sizeof paper1_text);
+    memcpy(huge, paper1_pattern, sizeof paper1_pattern);
+    check(mitongory_hash_value(huge, length, PAPER1_M, 0x34, answer, 1) == MITONGORY_OK && answer[0] == 0, "pattern of H");
+    clear(sizeof paper1_pattern);
+}
+
+static void long_lists(void)
+{
+    static const uint8_t file[] = {3, 0, 5, 5}, one_position[] = {1, 5};
+    uint32_t *cells = huge;
+    uint8_t target[4] = {0};
+    about("a list or a file with a length of 33 bits");
+    check(mitongory_list_size(huge, length, answer, 1) == MITONGORY_LIST_NOT_RISING, "list of zeros, its size");
+    check(mitongory_list_write(huge, length, target, sizeof target, answer, 1) == MITONGORY_LIST_NOT_RISING,
+          "list of zeros, its file");
+    check(mitongory_list_write(paper2_occurrences, PAPER2_OCCURRENCES, huge, length, answer, 1) == MITONGORY_OK &&
+              answer[0] == sizeof file,
+          "target");
+    check(memcmp(huge, file, sizeof file) == 0 && cells[1] == 0, "what that target holds");
+    check(mitongory_list_read(huge, length, list, 2, answer, 1) == MITONGORY_CELLS_MISSING, "file of three positions");
+    clear(sizeof file);
+    memcpy(huge, one_position, sizeof one_position);
+    check(mitongory_list_read(huge, length, list, 2, answer, 1) == MITONGORY_BYTES_LEFT_OVER, "file of one position");
+    clear(sizeof one_position);
+    check(mitongory_list_read(one_position, sizeof one_position, cells, length, answer, 1) == MITONGORY_OK && answer[0] == 1,
+          "cells");
+    check(cells[0] == 5 && cells[1] == 0, "what those cells hold");
+}
+
+static void lengths_of_33_bits(void)
+{
+    const size_t bytes = length * sizeof(uint64_t);
+    huge = zeros(bytes, "there are no 32 GiB of addresses for lengths of 33 bits: lift the limit (ulimit -v, "
+                        "vm.overcommit_memory), as these checks are never left out");
+    long_searches();
+    long_values();
+    long_lists();
+    munmap(huge, bytes);
+}
+
+void large(void)
+{
+    largest_text();
+    lengths_of_33_bits();
+}

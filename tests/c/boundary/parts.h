@@ -1,0 +1,13 @@
+/* The parts of the test, each in a file of its name. */
+#ifndef PARTS_H
+#define PARTS_H
+
+void searches(void);
+void drawn(void);
+void values(void);
+void lists(void);
+void pointers(void);
+void large(void);
+void header(void);
+
+#endif

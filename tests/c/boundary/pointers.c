@@ -1,0 +1,65 @@
+/* Empty buffers may have any pointer, and buffers that are only read may be the same. */
+#include <mitongory.h>
+
+#include "check.h"
+#include "lend.h"
+#include "papers.h"
+#include "parts.h"
+
+static uint64_t scratch[MITONGORY_SCRATCH_CELLS], answer[MITONGORY_ANSWER_CELLS];
+
+/* A search in which only the answer may be a buffer that is not empty. */
+#define SEARCH(m, method, answer, answer_len)                                                                              \
+    mitongory_search(nowhere, 0, 0, nowhere, 0, m, method, 0, 0, nowhere, 0, nowhere, 0, answer, answer_len)
+
+/* Every call with every buffer empty, then all but the answer. */
+static void empty_buffers(const char *name, void *nowhere)
+{
+    const uint64_t m = 8;
+    about(name);
+    check(SEARCH(0, MITONGORY_PLAIN, nowhere, 0) == MITONGORY_ANSWER_CELLS_MISSING, "search");
+    check(SEARCH(0, MITONGORY_WIDE + 1, nowhere, 0) == MITONGORY_UNKNOWN_METHOD, "search by method 4");
+    check(SEARCH(0, MITONGORY_PLAIN, answer, 4) == MITONGORY_PATTERN_LENGTH, "search for no bits");
+    check(SEARCH(1, MITONGORY_PLAIN, answer, 4) == MITONGORY_PATTERN_BYTES_MISSING, "search for one bit");
+    check(mitongory_hash_value(nowhere, 0, m, 0, nowhere, 0) == MITONGORY_ANSWER_CELLS_MISSING, "hash value");
+    check(mitongory_hash_value(nowhere, 0, m, 0, answer, 1) == MITONGORY_PATTERN_BYTES_MISSING, "hash value of no bytes");
+    check(mitongory_eight_bits(nowhere, 0, 0, 0, nowhere, 0) == MITONGORY_ANSWER_CELLS_MISSING, "eight bits");
+    check(mitongory_eight_bits(nowhere, 0, 0, 0, answer, 1) == MITONGORY_BEYOND_END, "eight bits of none");
+    check(mitongory_list_size(nowhere, 0, nowhere, 0) == MITONGORY_ANSWER_CELLS_MISSING, "list size");
+    check(mitongory_list_size(nowhere, 0, answer, 1) == MITONGORY_OK && answer[0] == 1, "size of the empty list");
+    check(mitongory_list_write(nowhere, 0, nowhere, 0, nowhere, 0) == MITONGORY_ANSWER_CELLS_MISSING, "list write");
+    check(mitongory_list_write(nowhere, 0, nowhere, 0, answer, 1) == MITONGORY_TARGET_TOO_SHORT, "empty list, no bytes");
+    check(mitongory_list_read(nowhere, 0, nowhere, 0, nowhere, 0) == MITONGORY_ANSWER_CELLS_MISSING, "list read");
+    check(mitongory_list_read(nowhere, 0, nowhere, 0, answer, 1) == MITONGORY_FILE_ENDS_EARLY, "an empty file");
+    check(mitongory_list_read((const uint8_t *)"", 1, nowhere, 0, answer, 1) == MITONGORY_OK && answer[0] == 0,
+          "the empty list's file");
+    check(mitongory_search(nowhere, 0, 0, paper1_pattern, PAPER1_PATTERN_BYTES, PAPER1_M, MITONGORY_PLAIN, 0, 1, nowhere, 0,
+                           scratch, MITONGORY_SCRATCH_CELLS, answer, 4) == MITONGORY_OK,
+          "an empty text and an empty list");
+    check(answer[MITONGORY_STEPS] == 0 && answer[MITONGORY_OCCURRENCES] == 0 && answer[MITONGORY_MARK] == 0 &&
+              answer[MITONGORY_STOP] == MITONGORY_DONE,
+          "the answer to them");
+}
+
+static void same_buffer(void)
+{
+    const uint8_t *both = paper2_pattern;
+    uint32_t list[4] = {1, 1, 1, 1};
+    about("one buffer as text and pattern");
+    check(mitongory_search(both, PAPER2_PATTERN_BYTES, PAPER2_M, both, PAPER2_PATTERN_BYTES, PAPER2_M, MITONGORY_WIDE, 0, 9,
+                           list, 4, scratch, MITONGORY_SCRATCH_CELLS, answer, 4) == MITONGORY_OK,
+          "result");
+    check(answer[MITONGORY_OCCURRENCES] == 1 && list[0] == 0 && answer[MITONGORY_MARK] == 1 &&
+              answer[MITONGORY_STOP] == MITONGORY_DONE,
+          "answer");
+}
+
+void pointers(void)
+{
+    struct lent none = lend(0, NULL, AT_START, ONLY_READ);
+    empty_buffers("NULL with length 0", NULL);
+    empty_buffers("a page that cannot be touched, with length 0", none.pages);
+    empty_buffers("an odd address, with length 0", none.pages + 1);
+    give_back(&none);
+    same_buffer();
+}

@@ -1,0 +1,194 @@
+/* Searches of the papers by every method: accepted in every way to stop, and refused for every reason. */
+#include <mitongory.h>
+#include <string.h>
+
+#include "bounds.h"
+#include "papers.h"
+#include "parts.h"
+#include "search_call.h"
+
+enum { MORE_BYTES = 20, MORE_SCRATCH = 600, MORE_ANSWER = 5 };
+
+static const uint32_t no_method = MITONGORY_WIDE + 1;
+
+/* Paper 1, and then with more bytes than its bits take. */
+static void first_paper(uint32_t method, uint32_t steps)
+{
+    static const uint32_t places[] = {PAPER1_OCCURRENCE};
+    struct search q = paper1(method);
+    uint8_t text[MORE_BYTES], pattern[MORE_BYTES];
+    accepted("paper 1", q, steps, 1, PAPER1_PLACES, MITONGORY_DONE, places);
+    memset(text, paper1_pattern[0], sizeof text);
+    memcpy(text, paper1_text, sizeof paper1_text);
+    memset(pattern, 0xff, sizeof pattern);
+    memcpy(pattern, paper1_pattern, sizeof paper1_pattern);
+    q.text = text;
+    q.text_len = sizeof text;
+    q.pattern = pattern;
+    q.pattern_len = sizeof pattern;
+    accepted("more bytes than needed", q, steps, 1, PAPER1_PLACES, MITONGORY_DONE, places);
+}
+
+/* Paper 2 with too few cells and with no budget, from marks at the end, and cut so that it has no place. */
+static void second_paper(uint32_t method, uint32_t steps_to_full)
+{
+    struct search q = paper2(method);
+    q.list_len = 1;
+    accepted("paper 2 with one cell", q, steps_to_full, 1, 6, MITONGORY_FULL, paper2_occurrences);
+    q.list_len = 0;
+    accepted("paper 2 with no cell", q, 1, 0, 0, MITONGORY_FULL, NULL);
+    q = paper2(method);
+    q.budget = 0;
+    accepted("no budget", q, 0, 0, 0, MITONGORY_SPENT, NULL);
+    q.mark = PAPER2_PLACES;
+    accepted("no budget at the end", q, 0, 0, PAPER2_PLACES, MITONGORY_DONE, NULL);
+    q.budget = 1;
+    q.mark = PAPER2_PLACES - 1;
+    accepted("the last place", q, 1, 1, PAPER2_PLACES, MITONGORY_DONE, paper2_occurrences + 2);
+    q = paper2(method);
+    q.mark = PAPER2_PLACES;
+    q.answer_len = MITONGORY_ANSWER_CELLS + MORE_ANSWER;
+    q.scratch_len = MITONGORY_SCRATCH_CELLS + MORE_SCRATCH;
+    accepted("more cells than needed", q, 0, 0, PAPER2_PLACES, MITONGORY_DONE, NULL);
+    q.n = PAPER2_M - 1;
+    q.mark = 0;
+    accepted("a pattern longer than the text", q, 0, 0, 0, MITONGORY_DONE, NULL);
+    q = paper2(method);
+    q.text_len = 0;
+    q.n = 0;
+    accepted("an empty text", q, 0, 0, 0, MITONGORY_DONE, NULL);
+}
+
+/* The pattern 111 in 11111, whatever the bits after the text's last are. */
+static void ones(void)
+{
+    static const uint32_t places[] = {0, 1, 2};
+    struct search q = paper1(MITONGORY_PLAIN);
+    q.text = "\xf8";
+    q.text_len = 1;
+    q.n = 5;
+    q.pattern = "\xe0";
+    q.pattern_len = 1;
+    q.m = 3;
+    accepted("occurrences that overlap", q, 3, 3, 3, MITONGORY_DONE, places);
+    q.text = "\xff";
+    accepted("bits after the last one", q, 3, 3, 3, MITONGORY_DONE, places);
+}
+
+/* Every refusal but those of the method, with the least and the largest number that it is given for. */
+static void refused_by_every_method(uint32_t method)
+{
+    static const uint8_t zeros[LARGEST_M / 8 + 1];
+    struct search q = paper2(method);
+    q.n = LARGEST_N + 1;
+    refused("n = 2^30 + 1", q, MITONGORY_TEXT_TOO_LONG);
+    q.n = UINT64_MAX;
+    refused("the largest n", q, MITONGORY_TEXT_TOO_LONG);
+    q.n = TWO_TO_32 + PAPER2_N;
+    refused("an n of 33 bits", q, MITONGORY_TEXT_TOO_LONG);
+    q.n = LARGEST_N;
+    refused("n = 2^30 with five bytes", q, MITONGORY_TEXT_BYTES_MISSING);
+    q.n = PAPER2_TEXT_BYTES * 8 + 1;
+    refused("one byte too few", q, MITONGORY_TEXT_BYTES_MISSING);
+    q = paper2(method);
+    q.text_len = 0;
+    refused("no text bytes", q, MITONGORY_TEXT_BYTES_MISSING);
+    q = paper2(method);
+    q.m = 0;
+    refused("m = 0", q, MITONGORY_PATTERN_LENGTH);
+    q.pattern = zeros;
+    q.pattern_len = sizeof zeros;
+    q.m = LARGEST_M + 1;
+    refused("m = 2049", q, MITONGORY_PATTERN_LENGTH);
+    q.m = UINT64_MAX;
+    refused("the largest m", q, MITONGORY_PATTERN_LENGTH);
+    q.m = TWO_TO_32 + PAPER2_M;
+    refused("an m of 33 bits", q, MITONGORY_PATTERN_LENGTH);
+    q.m = LARGEST_M;
+    q.pattern_len = LARGEST_M / 8 - 1;
+    refused("m = 2048 with 255 bytes", q, MITONGORY_PATTERN_BYTES_MISSING);
+    q.pattern_len = LARGEST_M / 8;
+    accepted("m = 2048", q, 0, 0, 0, MITONGORY_DONE, NULL);
+    q = paper2(method);
+    q.pattern_len = 0;
+    refused("no pattern bytes", q, MITONGORY_PATTERN_BYTES_MISSING);
+    q = paper2(method);
+    q.mark = PAPER2_PLACES + 1;
+    refused("a mark after the end", q, MITONGORY_BEYOND_END);
+    q.mark = UINT32_MAX;
+    refused("the largest mark", q, MITONGORY_BEYOND_END);
+    q = paper2(method);
+    q.scratch_len = MITONGORY_SCRATCH_CELLS - 1;
+    refused("one scratch cell too few", q, MITONGORY_SCRATCH_TOO_SHORT);
+    q.scratch_len = 0;
+    refused("no scratch", q, MITONGORY_SCRATCH_TOO_SHORT);
+    q = paper2(method);
+    for (q.answer_len = 0; q.answer_len < MITONGORY_ANSWER_CELLS; q.answer_len++)
+        refused("too few answer cells", q, MITONGORY_ANSWER_CELLS_MISSING);
+}
+
+static void refused_for_a_method(void)
+{
+    struct search q = paper1(MITONGORY_HASH);
+    q.m = LEAST_M_HASH - 1;
+    refused("hash, m = 7", q, MITONGORY_PATTERN_TOO_SHORT);
+    q = paper2(MITONGORY_SKIP);
+    q.m = LEAST_M_SKIP - 1;
+    refused("skip, m = 14", q, MITONGORY_PATTERN_TOO_SHORT);
+    refused("paper 1 by skip", paper1(MITONGORY_SKIP), MITONGORY_PATTERN_TOO_SHORT);
+    q = paper1(MITONGORY_PLAIN);
+    q.mark = PAPER1_PLACES + 1;
+    refused("the mark 28 of document 01", q, MITONGORY_BEYOND_END);
+    refused("a good call by method 4", paper2(no_method), MITONGORY_UNKNOWN_METHOD);
+}
+
+/* Everything is wrong at first; then one thing after the other is put right, in the order of the refusals. */
+static void order_of_refusals(void)
+{
+    struct search q = paper1(no_method);
+    q.n = UINT64_MAX;
+    q.m = 0;
+    q.pattern_len = 0;
+    q.mark = UINT32_MAX;
+    q.scratch_len = 0;
+    q.answer_len = MITONGORY_ANSWER_CELLS - 1;
+    refused("method 4", q, MITONGORY_UNKNOWN_METHOD);
+    q.method = 256;
+    refused("method 256", q, MITONGORY_UNKNOWN_METHOD);
+    q.method = UINT32_MAX;
+    refused("the largest method", q, MITONGORY_UNKNOWN_METHOD);
+    q.method = MITONGORY_SKIP;
+    refused("then the answer cells", q, MITONGORY_ANSWER_CELLS_MISSING);
+    q.answer_len = MITONGORY_ANSWER_CELLS;
+    refused("then n", q, MITONGORY_TEXT_TOO_LONG);
+    q.n = PAPER1_TEXT_BYTES * 8 + 1;
+    refused("then the text bytes", q, MITONGORY_TEXT_BYTES_MISSING);
+    q.n = PAPER1_N;
+    refused("then m", q, MITONGORY_PATTERN_LENGTH);
+    q.m = PAPER1_M;
+    refused("then the pattern bytes", q, MITONGORY_PATTERN_BYTES_MISSING);
+    q.pattern_len = PAPER1_PATTERN_BYTES;
+    refused("then the pattern's length for the method", q, MITONGORY_PATTERN_TOO_SHORT);
+    q.method = MITONGORY_HASH;
+    refused("then the mark", q, MITONGORY_BEYOND_END);
+    q.mark = PAPER1_PLACES;
+    refused("then the scratch", q, MITONGORY_SCRATCH_TOO_SHORT);
+    q.scratch_len = MITONGORY_SCRATCH_CELLS;
+    accepted("and then it is accepted", q, 0, 0, PAPER1_PLACES, MITONGORY_DONE, NULL);
+}
+
+void searches(void)
+{
+    static const uint32_t steps_to_full[] = {7, 2, 1, 1};
+    uint32_t method;
+    first_paper(MITONGORY_PLAIN, 27);
+    first_paper(MITONGORY_HASH, 5);
+    first_paper(MITONGORY_WIDE, 1);
+    for (method = MITONGORY_PLAIN; method <= MITONGORY_WIDE; method++) {
+        second_paper(method, steps_to_full[method]);
+        refused_by_every_method(method);
+    }
+    ones();
+    refused_for_a_method();
+    order_of_refusals();
+}
