@@ -49,8 +49,8 @@ static int is_result(uint32_t number)
 
 static int is_sentence(const char *text)
 {
-    size_t length = strlen(text);
-    return length > 1 && text[0] >= 'A' && text[0] <= 'Z' && text[length - 1] == '.' && strchr(text, '.') == text + length - 1;
+    const char *stop = strchr(text, '.');
+    return text[0] >= 'A' && text[0] <= 'Z' && stop != NULL && stop[1] == '\0';
 }
 
 /* Every result has a sentence of its own, and all other numbers share one. */

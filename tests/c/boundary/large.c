@@ -174,7 +174,8 @@ static void long_lists(void)
     memcpy(huge, one_position, sizeof one_position);
     check(mitongory_list_read(huge, length, list, 2, answer, 1) == MITONGORY_BYTES_LEFT_OVER, "file of one position");
     clear(sizeof one_position);
-    check(mitongory_list_read(one_position, sizeof one_position, cells, length, answer, 1) == MITONGORY_OK && answer[0] == 1,
+    check(mitongory_list_read(one_position, sizeof one_position, cells, length, answer, 1) == MITONGORY_OK &&
+              answer[0] == 1,
           "cells");
     check(cells[0] == 5 && cells[1] == 0, "what those cells hold");
 }

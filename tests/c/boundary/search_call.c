@@ -5,33 +5,26 @@
 #include "check.h"
 #include "papers.h"
 
+/* All but the text and the pattern. */
+static struct search search_by(uint32_t method)
+{
+    struct search q = {NULL, 0, 0, NULL, 0, 0, method, 0, UINT32_MAX, 3, MITONGORY_SCRATCH_CELLS, MITONGORY_ANSWER_CELLS};
+    return q;
+}
+
 struct search paper1(uint32_t method)
 {
-    struct search q;
-    q.text = paper1_text;
-    q.text_len = sizeof paper1_text;
-    q.n = PAPER1_N;
-    q.pattern = paper1_pattern;
-    q.pattern_len = sizeof paper1_pattern;
-    q.m = PAPER1_M;
-    q.method = method;
-    q.mark = 0;
-    q.budget = UINT32_MAX;
-    q.list_len = 3;
-    q.scratch_len = MITONGORY_SCRATCH_CELLS;
-    q.answer_len = MITONGORY_ANSWER_CELLS;
+    struct search q = search_by(method);
+    q.text = paper1_text, q.text_len = PAPER1_TEXT_BYTES, q.n = PAPER1_N;
+    q.pattern = paper1_pattern, q.pattern_len = PAPER1_PATTERN_BYTES, q.m = PAPER1_M;
     return q;
 }
 
 struct search paper2(uint32_t method)
 {
-    struct search q = paper1(method);
-    q.text = paper2_text;
-    q.text_len = sizeof paper2_text;
-    q.n = PAPER2_N;
-    q.pattern = paper2_pattern;
-    q.pattern_len = sizeof paper2_pattern;
-    q.m = PAPER2_M;
+    struct search q = search_by(method);
+    q.text = paper2_text, q.text_len = PAPER2_TEXT_BYTES, q.n = PAPER2_N;
+    q.pattern = paper2_pattern, q.pattern_len = PAPER2_PATTERN_BYTES, q.m = PAPER2_M;
     return q;
 }
 
@@ -56,34 +49,35 @@ void give_back_all(struct search_buffers *b)
     give_back(&b->answer);
 }
 
-void accepted(const char *name, struct search q, uint64_t steps, uint64_t occurrences, uint64_t mark, uint64_t stop,
-              const uint32_t *places)
+/*
+ * Expects, on both sides, the result and so many bytes at the front of answer and list. All else stays, but so many bytes
+ * at the front of the scratch.
+ */
+static void expect(const char *name, const struct search *q, uint32_t result, const void *told, size_t told_bytes,
+                   const void *places, size_t places_bytes, size_t scratch_bytes)
 {
-    const uint64_t told[MITONGORY_ANSWER_CELLS] = {steps, occurrences, mark, stop};
     struct search_buffers b;
     int side;
     about(name);
     for (side = AT_START; side < SIDES; side++) {
-        check(search_on(&q, (enum side)side, &b) == MITONGORY_OK, "result");
+        check(search_on(q, (enum side)side, &b) == result, "result");
         check(stays(&b.text) && stays(&b.pattern), "text and pattern");
-        check(holds(&b.answer, told, sizeof told), "answer");
-        check(holds(&b.list, places, (size_t)occurrences * sizeof *places), "list");
-        check(stays_after(&b.scratch, MITONGORY_SCRATCH_CELLS * sizeof(uint64_t)), "scratch after its first cells");
+        check(holds(&b.answer, told, told_bytes), "answer");
+        check(holds(&b.list, places, places_bytes), "list");
+        check(stays_after(&b.scratch, scratch_bytes), "scratch");
         give_back_all(&b);
     }
 }
 
+void accepted(const char *name, struct search q, uint64_t steps, uint64_t occurrences, uint64_t mark, uint64_t stop,
+              const uint32_t *places)
+{
+    const uint64_t told[MITONGORY_ANSWER_CELLS] = {steps, occurrences, mark, stop};
+    expect(name, &q, MITONGORY_OK, told, sizeof told, places, (size_t)occurrences * sizeof *places,
+           MITONGORY_SCRATCH_CELLS * sizeof(uint64_t));
+}
+
 void refused(const char *name, struct search q, uint32_t refusal)
 {
-    struct search_buffers b;
-    int side;
-    about(name);
-    for (side = AT_START; side < SIDES; side++) {
-        check(search_on(&q, (enum side)side, &b) == refusal, "result");
-        check(stays(&b.text) && stays(&b.pattern), "text and pattern");
-        check(stays(&b.answer), "answer of a refused call");
-        check(stays(&b.list), "list of a refused call");
-        check(stays(&b.scratch), "scratch of a refused call");
-        give_back_all(&b);
-    }
+    expect(name, &q, refusal, NULL, 0, NULL, 0, 0);
 }

@@ -16,7 +16,7 @@ struct search {
     size_t list_len, scratch_len, answer_len;
 };
 
-/* Paper 1 or 2 from the mark 0 on, with the largest budget, three cells for the list, and no more other cells than needed. */
+/* Paper 1 or 2 from the mark 0 on, with the largest budget, three list cells, and the least scratch and answer. */
 struct search paper1(uint32_t method);
 struct search paper2(uint32_t method);
 

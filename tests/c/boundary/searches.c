@@ -75,70 +75,74 @@ static void ones(void)
     accepted("bits after the last one", q, 3, 3, 3, MITONGORY_DONE, places);
 }
 
+static void refused_n(const char *name, struct search q, uint64_t n, uint32_t refusal)
+{
+    q.n = n;
+    refused(name, q, refusal);
+}
+
+static void refused_m(const char *name, struct search q, uint64_t m, uint32_t refusal)
+{
+    q.m = m;
+    refused(name, q, refusal);
+}
+
+static void refused_mark(const char *name, struct search q, uint32_t mark)
+{
+    q.mark = mark;
+    refused(name, q, MITONGORY_BEYOND_END);
+}
+
+static void refused_scratch(const char *name, struct search q, size_t scratch_len)
+{
+    q.scratch_len = scratch_len;
+    refused(name, q, MITONGORY_SCRATCH_TOO_SHORT);
+}
+
 /* Every refusal but those of the method, with the least and the largest number that it is given for. */
 static void refused_by_every_method(uint32_t method)
 {
     static const uint8_t zeros[LARGEST_M / 8 + 1];
-    struct search q = paper2(method);
-    q.n = LARGEST_N + 1;
-    refused("n = 2^30 + 1", q, MITONGORY_TEXT_TOO_LONG);
-    q.n = UINT64_MAX;
-    refused("the largest n", q, MITONGORY_TEXT_TOO_LONG);
-    q.n = TWO_TO_32 + PAPER2_N;
-    refused("an n of 33 bits", q, MITONGORY_TEXT_TOO_LONG);
-    q.n = LARGEST_N;
-    refused("n = 2^30 with five bytes", q, MITONGORY_TEXT_BYTES_MISSING);
-    q.n = PAPER2_TEXT_BYTES * 8 + 1;
-    refused("one byte too few", q, MITONGORY_TEXT_BYTES_MISSING);
-    q = paper2(method);
+    const struct search good = paper2(method);
+    struct search q = good;
+    refused_n("n = 2^30 + 1", good, LARGEST_N + 1, MITONGORY_TEXT_TOO_LONG);
+    refused_n("the largest n", good, UINT64_MAX, MITONGORY_TEXT_TOO_LONG);
+    refused_n("an n of 33 bits", good, TWO_TO_32 + PAPER2_N, MITONGORY_TEXT_TOO_LONG);
+    refused_n("n = 2^30 with five bytes", good, LARGEST_N, MITONGORY_TEXT_BYTES_MISSING);
+    refused_n("one byte too few", good, PAPER2_TEXT_BYTES * 8 + 1, MITONGORY_TEXT_BYTES_MISSING);
     q.text_len = 0;
     refused("no text bytes", q, MITONGORY_TEXT_BYTES_MISSING);
-    q = paper2(method);
-    q.m = 0;
-    refused("m = 0", q, MITONGORY_PATTERN_LENGTH);
-    q.pattern = zeros;
-    q.pattern_len = sizeof zeros;
-    q.m = LARGEST_M + 1;
-    refused("m = 2049", q, MITONGORY_PATTERN_LENGTH);
-    q.m = UINT64_MAX;
-    refused("the largest m", q, MITONGORY_PATTERN_LENGTH);
-    q.m = TWO_TO_32 + PAPER2_M;
-    refused("an m of 33 bits", q, MITONGORY_PATTERN_LENGTH);
-    q.m = LARGEST_M;
-    q.pattern_len = LARGEST_M / 8 - 1;
-    refused("m = 2048 with 255 bytes", q, MITONGORY_PATTERN_BYTES_MISSING);
-    q.pattern_len = LARGEST_M / 8;
-    accepted("m = 2048", q, 0, 0, 0, MITONGORY_DONE, NULL);
-    q = paper2(method);
+
+    refused_m("m = 0", good, 0, MITONGORY_PATTERN_LENGTH);
+    q = good;
     q.pattern_len = 0;
     refused("no pattern bytes", q, MITONGORY_PATTERN_BYTES_MISSING);
-    q = paper2(method);
-    q.mark = PAPER2_PLACES + 1;
-    refused("a mark after the end", q, MITONGORY_BEYOND_END);
-    q.mark = UINT32_MAX;
-    refused("the largest mark", q, MITONGORY_BEYOND_END);
-    q = paper2(method);
-    q.scratch_len = MITONGORY_SCRATCH_CELLS - 1;
-    refused("one scratch cell too few", q, MITONGORY_SCRATCH_TOO_SHORT);
-    q.scratch_len = 0;
-    refused("no scratch", q, MITONGORY_SCRATCH_TOO_SHORT);
-    q = paper2(method);
+    q.pattern = zeros;
+    q.pattern_len = sizeof zeros;
+    refused_m("m = 2049", q, LARGEST_M + 1, MITONGORY_PATTERN_LENGTH);
+    refused_m("the largest m", q, UINT64_MAX, MITONGORY_PATTERN_LENGTH);
+    refused_m("an m of 33 bits", q, TWO_TO_32 + PAPER2_M, MITONGORY_PATTERN_LENGTH);
+    q.pattern_len = LARGEST_M / 8 - 1;
+    refused_m("m = 2048 with 255 bytes", q, LARGEST_M, MITONGORY_PATTERN_BYTES_MISSING);
+    q.pattern_len = LARGEST_M / 8;
+    q.m = LARGEST_M;
+    accepted("m = 2048", q, 0, 0, 0, MITONGORY_DONE, NULL);
+
+    refused_mark("a mark after the end", good, PAPER2_PLACES + 1);
+    refused_mark("the largest mark", good, UINT32_MAX);
+    refused_scratch("one scratch cell too few", good, MITONGORY_SCRATCH_CELLS - 1);
+    refused_scratch("no scratch", good, 0);
+    q = good;
     for (q.answer_len = 0; q.answer_len < MITONGORY_ANSWER_CELLS; q.answer_len++)
         refused("too few answer cells", q, MITONGORY_ANSWER_CELLS_MISSING);
 }
 
 static void refused_for_a_method(void)
 {
-    struct search q = paper1(MITONGORY_HASH);
-    q.m = LEAST_M_HASH - 1;
-    refused("hash, m = 7", q, MITONGORY_PATTERN_TOO_SHORT);
-    q = paper2(MITONGORY_SKIP);
-    q.m = LEAST_M_SKIP - 1;
-    refused("skip, m = 14", q, MITONGORY_PATTERN_TOO_SHORT);
+    refused_m("hash, m = 7", paper1(MITONGORY_HASH), LEAST_M_HASH - 1, MITONGORY_PATTERN_TOO_SHORT);
+    refused_m("skip, m = 14", paper2(MITONGORY_SKIP), LEAST_M_SKIP - 1, MITONGORY_PATTERN_TOO_SHORT);
     refused("paper 1 by skip", paper1(MITONGORY_SKIP), MITONGORY_PATTERN_TOO_SHORT);
-    q = paper1(MITONGORY_PLAIN);
-    q.mark = PAPER1_PLACES + 1;
-    refused("the mark 28 of document 01", q, MITONGORY_BEYOND_END);
+    refused_mark("the mark 28 of document 01", paper1(MITONGORY_PLAIN), PAPER1_PLACES + 1);
     refused("a good call by method 4", paper2(no_method), MITONGORY_UNKNOWN_METHOD);
 }
 
