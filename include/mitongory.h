@@ -92,7 +92,10 @@ static inline uint32_t mitongory_version(void)
 }
 
 #ifdef __GNUC__
-/* Every program refers to the function, also one that never asks for the version. */
+/*
+ * Every program refers to the function, also one that never asks for the version. (A linker that is told to drop unused
+ * data, by --gc-sections, drops this reference too.)
+ */
 static uint32_t (*const mitongory_version_needed)(void) __attribute__((used)) = mitongory_version_0_2;
 #endif
 
