@@ -7,7 +7,7 @@
 #                 instead; other modes (bench/bench.c) time one part
 .PHONY: run lib install uninstall test bench
 .NOTPARALLEL:
-SHELL := /bin/bash
+SHELL := bash
 .SHELLFLAGS := -o pipefail -c
 
 PREFIX ?= /usr/local
