@@ -1,8 +1,8 @@
 //! The library's C calls on slices: numbers in, a number out, nothing interpreted. The rest of the crate is over
-//! these; they are public so that tests can hand over any number and any length.
+//! these; they are public, but hidden, so that tests can hand over any number and any length.
 //!
 //! Each call returns 0 and fills the front of `answer`, or returns the number of a refusal and changes nothing. Two
-//! numbers are not refusals of the rules: [`UNKNOWN_METHOD`] and [`FEW_ANSWER_CELLS`].
+//! numbers are not refusals of the rules: [`UNKNOWN_METHOD`] and [`ANSWER_CELLS_MISSING`].
 #![allow(unsafe_code)]
 // The calls' parameters are fixed by the library.
 #![allow(clippy::too_many_arguments)]
@@ -10,20 +10,21 @@
 /// The method's number is above 3.
 pub const UNKNOWN_METHOD: u32 = 100;
 /// The answer has fewer cells than the call fills.
-pub const FEW_ANSWER_CELLS: u32 = 101;
+pub const ANSWER_CELLS_MISSING: u32 = 101;
 
-// The library takes a slice as a pointer and a count of elements. Its functions ask nothing of the numbers, and of
-// each slice what a Rust reference gives: a pointer that is not null and is aligned, also for no elements; that many
-// initialised elements; and for a `&mut` slice no other access to them during the call. Nothing checks these
-// declarations against the library: tests/library/boundary.rs tests them.
+// include/mitongory.h says what the library asks of a pointer and its count of elements. A Rust slice gives more than
+// that: its pointer is aligned and never NULL, also for no elements; its elements are initialised; and nothing else has
+// access to those of a `&mut` slice during the call. Nothing checks these declarations against the library:
+// tests/library/boundary.rs tests them.
 mod raw {
     extern "C" {
-        pub fn mitongory_search(
+        pub(super) fn mitongory_version_0_2() -> u32;
+        pub(super) fn mitongory_search(
             text: *const u8,
             text_len: usize,
             n: u64,
-            word: *const u8,
-            word_len: usize,
+            pattern: *const u8,
+            pattern_len: usize,
             m: u64,
             method: u32,
             mark: u32,
@@ -35,15 +36,15 @@ mod raw {
             answer: *mut u64,
             answer_len: usize,
         ) -> u32;
-        pub fn mitongory_hash_value(
-            word: *const u8,
-            word_len: usize,
+        pub(super) fn mitongory_hash_value(
+            pattern: *const u8,
+            pattern_len: usize,
             m: u64,
             value: u8,
             answer: *mut u64,
             answer_len: usize,
         ) -> u32;
-        pub fn mitongory_eight_bits(
+        pub(super) fn mitongory_eight_bits(
             bytes: *const u8,
             bytes_len: usize,
             n: u64,
@@ -51,8 +52,13 @@ mod raw {
             answer: *mut u64,
             answer_len: usize,
         ) -> u32;
-        pub fn mitongory_list_size(list: *const u32, list_len: usize, answer: *mut u64, answer_len: usize) -> u32;
-        pub fn mitongory_list_write(
+        pub(super) fn mitongory_list_size(
+            list: *const u32,
+            list_len: usize,
+            answer: *mut u64,
+            answer_len: usize,
+        ) -> u32;
+        pub(super) fn mitongory_list_write(
             list: *const u32,
             list_len: usize,
             target: *mut u8,
@@ -60,7 +66,7 @@ mod raw {
             answer: *mut u64,
             answer_len: usize,
         ) -> u32;
-        pub fn mitongory_list_read(
+        pub(super) fn mitongory_list_read(
             file: *const u8,
             file_len: usize,
             cells: *mut u32,
@@ -71,8 +77,23 @@ mod raw {
     }
 }
 
-/// A search call. Method 0 is plain, 1 hash, 2 skip, 3 wide; the answer's four cells are steps, hits, mark and how the
-/// call stopped (0 done, 1 full, 2 spent).
+// Kept in every program, used or not, so that the linker refuses an archive of another version.
+#[used]
+static VERSION: unsafe extern "C" fn() -> u32 = raw::mitongory_version_0_2;
+
+/// The archive's version, as major * 10,000 + minor * 100 + patch.
+///
+/// ```
+/// assert_eq!(mitongory::ffi::version(), 200);
+/// ```
+#[must_use]
+pub fn version() -> u32 {
+    // SAFETY: the function takes nothing and returns a number.
+    unsafe { raw::mitongory_version_0_2() }
+}
+
+/// A search call. Method 0 is plain, 1 hash, 2 skip, 3 wide; the answer's four cells are steps, occurrences, mark and
+/// how the call stopped (0 done, 1 full, 2 spent).
 ///
 /// ```
 /// let (mut list, mut scratch, mut answer) = ([0; 4], [0; 4224], [0; 4]);
@@ -82,7 +103,7 @@ mod raw {
 pub fn search(
     text: &[u8],
     n: u64,
-    word: &[u8],
+    pattern: &[u8],
     m: u64,
     method: u32,
     mark: u32,
@@ -97,8 +118,8 @@ pub fn search(
             text.as_ptr(),
             text.len(),
             n,
-            word.as_ptr(),
-            word.len(),
+            pattern.as_ptr(),
+            pattern.len(),
             m,
             method,
             mark,
@@ -113,16 +134,16 @@ pub fn search(
     }
 }
 
-/// H of a value for a word, in the answer's first cell.
+/// H of a value for a pattern, in the answer's first cell.
 ///
 /// ```
 /// let mut answer = [0];
 /// let said = mitongory::ffi::hash_value(&[0xcb, 0x2c, 0xb0], 21, 0b0110_0101, &mut answer);
 /// assert_eq!((said, answer), (0, [2]));
 /// ```
-pub fn hash_value(word: &[u8], m: u64, value: u8, answer: &mut [u64]) -> u32 {
+pub fn hash_value(pattern: &[u8], m: u64, value: u8, answer: &mut [u64]) -> u32 {
     // SAFETY: each pointer and length come from one live slice, and the `&mut` slice overlaps nothing.
-    unsafe { raw::mitongory_hash_value(word.as_ptr(), word.len(), m, value, answer.as_mut_ptr(), answer.len()) }
+    unsafe { raw::mitongory_hash_value(pattern.as_ptr(), pattern.len(), m, value, answer.as_mut_ptr(), answer.len()) }
 }
 
 /// Eight bits from a bit number on, in the answer's first cell.

@@ -1,41 +1,155 @@
-//! Exact search for a bit word in a packed recording, in four ways, and a file for lists of positions.
+//! Exact search for a pattern of bits in packed bits, over a proved library.
 //!
-//! The work is done by a proved library, linked as a static archive. This crate adds no rule of its own: it gives
-//! the library's calls Rust types, so that a caller needs no `unsafe` and no buffer lengths. Bit `p` is the bit of
-//! weight `2^(7 - p % 8)` in byte `p / 8`; a *hit* is a place `s` at which every bit of the word stands in the
-//! recording, and hits may overlap.
+//! The crate lists every place where a *pattern* of 1 to 2,048 bits stands in a *text* of up to 2^30 bits. A place is a
+//! bit number: a pattern may stand at any bit, not only where a byte begins, and its occurrences may overlap. There are
+//! four methods of searching, which find the same occurrences, and a file format for lists of positions.
+//!
+//! The work is done by a library in which every function is proved to meet its contract. It is linked as a static
+//! archive. This crate gives its calls Rust types and adds no rule of its own. It has no dependencies.
+//!
+//! # Quick start
 //!
 //! ```
-//! use mitongory::{Hits, Method, Recording, Word};
+//! use mitongory::{Bits, Method, Occurrences};
 //!
-//! # fn main() -> Result<(), mitongory::Refusal> {
-//! // 1100 1011 0010 1100 1011 0010 1100 1011 0
-//! let recording = Recording::new(&[0xcb, 0x2c, 0xb2, 0xcb, 0x00], 33)?;
-//! // 1100 1011 0010 1100 1011 0
-//! let word = Word::new(&[0xcb, 0x2c, 0xb0], 21)?;
-//! let hits: Vec<u32> = Hits::new(recording, word, Method::Skip)?.collect();
-//! assert_eq!(hits, [0, 6, 12]);
+//! # fn main() -> Result<(), Box<dyn std::error::Error>> {
+//! let long: Bits = "110010110010110010110010110010110".parse()?;
+//! let short: Bits = "110010110010110010110".parse()?;
+//! let (text, pattern) = (long.text()?, short.pattern()?);
+//!
+//! let places: Vec<u32> = Occurrences::new(text, pattern, Method::Skip)?.collect();
+//! assert_eq!(places, [0, 6, 12]);
 //! # Ok(())
 //! # }
 //! ```
 //!
-//! [`search`] is the call itself, with a mark, a budget of steps, a lent list and a lent scratch; [`Hits`] goes over
-//! all hits; [`positions`] writes and reads the file.
-#![warn(missing_docs)]
-#![deny(unsafe_code)]
+//! [`Occurrences`] is the iterator over all places. [`Method`] says which patterns each method takes and which is fast
+//! where; [`Method::Plain`] and [`Method::Wide`] take every pattern.
+//!
+//! # Packed bits
+//!
+//! A text and a pattern are bytes and a bit count. The leftmost bit of a byte, the one of weight 128, comes first: bit
+//! `p` is the bit of weight `2^(7 - p % 8)` in byte `p / 8`. So the 13 bits `1100101100101` are two bytes:
+//!
+//! ```text
+//!   byte              0                         1
+//!             ┌──────────────────┐   ┌──────────────────────┐
+//!   bits       1 1 0 0 1 0 1 1        0 0  1  0  1  ·  ·  ·        0xcb, 0x28
+//!   bit number 0 1 2 3 4 5 6 7        8 9 10 11 12                 13 bits
+//! ```
+//!
+//! The bits at the dots never matter. [`Text`] and [`Pattern`] borrow such bytes; [`Bits`] owns them and is made from
+//! characters 0 and 1. Whole bytes are eight bits each:
+//!
+//! ```
+//! use mitongory::{Method, Occurrences, Pattern, Text};
+//!
+//! # fn main() -> Result<(), mitongory::Refusal> {
+//! let text = Text::from_bytes(b"a bit, and a bit more")?;
+//! let places: Vec<u32> = Occurrences::new(text, Pattern::from_bytes(b"bit")?, Method::Hash)?.collect();
+//! assert_eq!(places, [2 * 8, 13 * 8]);
+//!
+//! let text = Text::new(&[0xcb, 0x28], 13)?;
+//! let pattern = Pattern::new(&[0b1011_0000], 4)?;
+//! assert!(Occurrences::new(text, pattern, Method::Plain)?.eq([4]));
+//! # Ok(())
+//! # }
+//! ```
+//!
+//! # A call with a mark and a budget
+//!
+//! [`search`] is the call under the iterator: a bounded piece of work. It gets a *mark*, the first place that is not yet
+//! decided; a *budget* of steps; a *list* for the places; and a *scratch* for its tables. It allocates nothing. Its
+//! [`Answer`] has the steps made, how many places were written to the front of the list, the mark moved on, and how the
+//! call stopped: [done](Stop::Done), [full](Stop::Full) (no free cell for an occurrence) or [spent](Stop::Spent) (the
+//! budget). The next call goes on from the mark.
+//!
+//! ```
+//! use mitongory::{search, Bits, Mark, Method, Scratch, Stop};
+//!
+//! # fn main() -> Result<(), Box<dyn std::error::Error>> {
+//! let (zeros, one): (Bits, Bits) = ("0".repeat(200).parse()?, "1".parse()?);
+//! let (text, pattern) = (zeros.text()?, one.pattern()?);
+//! let (mut list, mut scratch) = ([0; 8], Scratch::new());
+//!
+//! let mut mark = Mark::START;
+//! let mut marks = vec![mark.place()];
+//! loop {
+//!     let answer = search(text, pattern, Method::Wide, mark, 1, &mut list, &mut scratch)?;
+//!     mark = answer.mark;
+//!     marks.push(mark.place());
+//!     if answer.stop == Stop::Done {
+//!         break;
+//!     }
+//! }
+//! assert_eq!(marks, [0, 65, 130, 195, 200]);
+//! # Ok(())
+//! # }
+//! ```
+//!
+//! [`Occurrences::next_within`] is the same bound for the iterator, and [`Occurrences::mark`] its mark.
+//!
+//! # Refusals
+//!
+//! A call that cannot be made is refused with a [`Refusal`], which has a number and says why; nothing is then changed.
+//! Nothing here panics on any input.
+//!
+//! ```
+//! use mitongory::{Method, Occurrences, Pattern, Refusal, Text};
+//!
+//! # fn main() -> Result<(), Refusal> {
+//! assert_eq!(Text::new(&[0xff], 9), Err(Refusal::TextBytesMissing));
+//!
+//! let (text, pattern) = (Text::new(&[0xff], 8)?, Pattern::new(&[0xff], 7)?);
+//! let refusal = Occurrences::new(text, pattern, Method::Hash).unwrap_err();
+//! assert_eq!((refusal, refusal.number()), (Refusal::PatternTooShort, 5));
+//! # Ok(())
+//! # }
+//! ```
+//!
+//! # The file of a list
+//!
+//! [`positions`] writes a rising list of positions as a short file and reads it again:
+//!
+//! ```
+//! use mitongory::positions;
+//!
+//! # fn main() -> Result<(), mitongory::Refusal> {
+//! let file = positions::encode(&[0, 6, 12])?;
+//! assert_eq!(file, [3, 0, 5, 5]);
+//! assert_eq!(positions::decode(&file)?, [0, 6, 12]);
+//! # Ok(())
+//! # }
+//! ```
+//!
+//! # What is proved
+//!
+//! For every input, refusals included, each call of the library answers as its short definition says and leaves every
+//! buffer as that says; and the calls of a search, joined, list every occurrence once (see [`search`]). The proofs end
+//! at the archive. This crate's Rust code, its declarations of the calls, and the compiler and linker are not proved:
+//! the crate is tested against a naive search and a naive codec. `unsafe` stands in one module, around the calls.
 
+mod bits;
+#[doc(hidden)]
 pub mod ffi;
-mod hits;
 mod method;
+mod occurrences;
+mod packed;
+mod pattern;
 pub mod positions;
-mod recording;
 mod refusal;
 mod search;
-mod word;
+mod text;
 
-pub use hits::Hits;
+pub use bits::{Bits, NotABit};
 pub use method::{Method, UnknownMethod};
-pub use recording::Recording;
+pub use occurrences::{Occurrences, Progress};
+pub use pattern::Pattern;
 pub use refusal::Refusal;
 pub use search::{search, Answer, Mark, Scratch, Stop, SCRATCH_CELLS};
-pub use word::Word;
+pub use text::Text;
+
+/// The examples of the crate's page are run as well.
+#[cfg(doctest)]
+#[doc = include_str!("../README.md")]
+struct Readme;

@@ -1,33 +1,48 @@
-//! The four ways to search. They find the same hits and differ in their steps.
+//! The four methods of searching. They find the same occurrences and differ in their steps.
 use std::error::Error;
 use std::fmt;
 use std::str::FromStr;
 
-/// A way to search.
+/// A method of searching. All find the same occurrences; they differ in the patterns that they take, in what a step
+/// does, and in speed.
+///
+/// On texts with about as many ones as zeros, skip is the fastest for patterns from 15 bits on, hash as fast from 128
+/// bits on, and plain the fastest below 15. Where most bits are alike, plain is the fastest up to some hundred bits and
+/// hash above. `docs/PERFORMANCE.md` in the repository has the measurements.
 #[derive(Clone, Copy, Debug, PartialEq, Eq, Hash)]
 #[repr(u32)]
 #[non_exhaustive]
 pub enum Method {
-    /// Every place in turn.
+    /// A step compares the pattern at one place and goes on to the next. For every pattern.
     Plain = 0,
-    /// Moves by the last eight bits of the window; for words of 8 bits or more.
+    /// A step looks at the last eight bits of a window and moves on as far as these allow. For patterns of 8 bits or
+    /// more.
     Hash = 1,
-    /// Looks at one whole byte of the recording for each step; for words of 15 bits or more.
+    /// A step looks at one whole byte of the text and decides all places that contain it, fewer than the pattern has
+    /// bits. For patterns of 15 bits or more.
     Skip = 2,
-    /// Decides 64 places or more in a step.
+    /// A step decides 64 places at once, and often passes over more. For every pattern.
     Wide = 3,
 }
 
 impl Method {
-    /// The four methods, in the order of their numbers.
-    pub const ALL: [Method; 4] = [Method::Plain, Method::Hash, Method::Skip, Method::Wide];
+    /// Every method, in the order of their numbers.
+    ///
+    /// ```
+    /// use mitongory::Method;
+    ///
+    /// let names: Vec<&str> = Method::ALL.iter().map(|method| method.name()).collect();
+    /// assert_eq!(names, ["plain", "hash", "skip", "wide"]);
+    /// ```
+    pub const ALL: &'static [Method] = &[Method::Plain, Method::Hash, Method::Skip, Method::Wide];
 
-    /// The method's word.
+    /// The method's name.
     ///
     /// ```
     /// assert_eq!(mitongory::Method::Skip.name(), "skip");
     /// ```
-    pub fn name(self) -> &'static str {
+    #[must_use]
+    pub const fn name(self) -> &'static str {
         match self {
             Method::Plain => "plain",
             Method::Hash => "hash",
@@ -37,12 +52,12 @@ impl Method {
     }
 
     /// The library's number for it.
-    pub(crate) fn number(self) -> u32 {
+    pub(crate) const fn number(self) -> u32 {
         self as u32
     }
 }
 
-/// The method's word.
+/// The method's name.
 ///
 /// ```
 /// assert_eq!(mitongory::Method::Wide.to_string(), "wide");
@@ -53,22 +68,23 @@ impl fmt::Display for Method {
     }
 }
 
-/// The method of a word.
+/// The method of a name.
 ///
 /// ```
-/// use mitongory::Method;
+/// use mitongory::{Method, UnknownMethod};
+///
 /// assert_eq!("hash".parse(), Ok(Method::Hash));
-/// assert!("Hash".parse::<Method>().is_err());
+/// assert_eq!("Hash".parse::<Method>(), Err(UnknownMethod));
 /// ```
 impl FromStr for Method {
     type Err = UnknownMethod;
 
-    fn from_str(word: &str) -> Result<Method, UnknownMethod> {
-        Method::ALL.into_iter().find(|m| m.name() == word).ok_or(UnknownMethod)
+    fn from_str(name: &str) -> Result<Method, UnknownMethod> {
+        Method::ALL.iter().copied().find(|method| method.name() == name).ok_or(UnknownMethod)
     }
 }
 
-/// A word that names no method.
+/// A name that no method has.
 #[derive(Clone, Copy, Debug, PartialEq, Eq)]
 pub struct UnknownMethod;
 

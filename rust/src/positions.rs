@@ -1,4 +1,23 @@
-//! The file for a list of positions: its count, the first position, then each distance less 1, as varints.
+//! The file for a list of positions.
+//!
+//! The file holds the list's count, the first position, and then for each later position its distance from the one
+//! before, less 1. Each number is a varint: groups of seven bits, the lowest group first, a byte for each group, with 128
+//! added where another follows, and in the fewest groups. So every list has one file, and [`decode`] accepts no other
+//! bytes than those that [`encode`] makes. Both, and that each undoes the other, are proved.
+//!
+//! ```
+//! use mitongory::{positions, Refusal};
+//!
+//! # fn main() -> Result<(), Refusal> {
+//! let file = positions::encode(&[0, 6, 12])?;
+//! assert_eq!(file, [3, 0, 5, 5]);
+//! assert_eq!(positions::decode(&file)?, [0, 6, 12]);
+//! assert_eq!(positions::decode(&file[..3]), Err(Refusal::CellsMissing));
+//! # Ok(())
+//! # }
+//! ```
+//!
+//! A file names no text and no pattern: what its positions mean is the caller's to know.
 use crate::ffi;
 use crate::refusal::Refusal;
 
@@ -8,71 +27,94 @@ const MOST: usize = 1 << 30;
 /// A library call's number and first answer cell as a count.
 fn count(said: u32, answer: [u64; 1]) -> Result<usize, Refusal> {
     Refusal::check(said)?;
-    Ok(usize::try_from(answer[0]).expect("a count of bytes or cells in memory"))
+    Ok(usize::try_from(answer[0]).expect("the library counts bytes or cells in memory"))
 }
 
-/// How many bytes a list's file takes; or refusal 8.
+/// How many bytes a list's file has.
 ///
 /// ```
 /// use mitongory::{positions, Refusal};
+///
 /// assert_eq!(positions::encoded_size(&[0, 6, 12]), Ok(4));
-/// assert_eq!(positions::encoded_size(&[6, 6]), Err(Refusal::NotRising));
+/// assert_eq!(positions::encoded_size(&[6, 6]), Err(Refusal::ListNotRising));
 /// ```
+///
+/// # Errors
+///
+/// [`Refusal::ListNotRising`] where the positions do not rise strictly, or one is 2^30 or more.
 pub fn encoded_size(list: &[u32]) -> Result<usize, Refusal> {
     let mut answer = [0];
     count(ffi::list_size(list, &mut answer), answer)
 }
 
-/// Writes a list's file to the front of the target and gives its byte count; or refusal 8 or 9. The bytes behind it
-/// stay as they were.
+/// Writes a list's file to the front of the target and gives its byte count. The bytes after it stay as they were.
 ///
 /// ```
 /// let mut target = [0xff; 5];
 /// assert_eq!(mitongory::positions::encode_into(&[0, 6, 12], &mut target), Ok(4));
 /// assert_eq!(target, [3, 0, 5, 5, 0xff]);
 /// ```
+///
+/// # Errors
+///
+/// [`Refusal::ListNotRising`] as in [`encoded_size`], [`Refusal::TargetTooShort`] for fewer bytes than the file has.
 pub fn encode_into(list: &[u32], target: &mut [u8]) -> Result<usize, Refusal> {
     let mut answer = [0];
     count(ffi::list_write(list, target, &mut answer), answer)
 }
 
-/// A list's file; or refusal 8.
+/// A list's file.
 ///
 /// ```
 /// assert_eq!(mitongory::positions::encode(&[300]), Ok(vec![0x01, 0xac, 0x02]));
 /// ```
+///
+/// # Errors
+///
+/// [`Refusal::ListNotRising`] as in [`encoded_size`].
 pub fn encode(list: &[u32]) -> Result<Vec<u8>, Refusal> {
     let mut file = vec![0; encoded_size(list)?];
     encode_into(list, &mut file)?;
     Ok(file)
 }
 
-/// Reads a file's list to the front of the cells and gives its count; or a refusal from 10 to 14. The cells behind it
-/// stay as they were.
+/// Reads a file's list to the front of the cells and gives its count. The cells after it stay as they were.
 ///
 /// ```
 /// use mitongory::{positions, Refusal};
+///
 /// let mut cells = [7; 4];
 /// assert_eq!(positions::decode_into(&[3, 0, 5, 5], &mut cells), Ok(3));
 /// assert_eq!(cells, [0, 6, 12, 7]);
-/// assert_eq!(positions::decode_into(&[3, 0, 5, 5], &mut cells[..2]), Err(Refusal::TooFewCells));
+/// assert_eq!(positions::decode_into(&[3, 0, 5, 5], &mut cells[..2]), Err(Refusal::CellsMissing));
 /// ```
+///
+/// # Errors
+///
+/// The file's first fault from front to back, refusals 10 to 13: it [ends early](Refusal::FileEndsEarly), a number is
+/// [not in the fewest groups](Refusal::NumberNotShortest) or [too large](Refusal::NumberTooLarge), or bytes
+/// [are left over](Refusal::BytesLeftOver); and [`Refusal::CellsMissing`] right after the count where it is above the
+/// number of cells.
 pub fn decode_into(file: &[u8], cells: &mut [u32]) -> Result<usize, Refusal> {
     let mut answer = [0];
     count(ffi::list_read(file, cells, &mut answer), answer)
 }
 
-/// A file's list; or a refusal from 10 to 14.
+/// A file's list.
 ///
 /// The count in front of a file may claim up to 2^30 positions, so it is not trusted: a cell is lent for each byte
-/// behind the first, which is enough, since count and positions take a byte or more each. Refusal 14 therefore means
-/// that the count is larger than the file's bytes can hold.
+/// after the first, which is enough, since count and positions take a byte or more each.
 ///
 /// ```
 /// use mitongory::{positions, Refusal};
+///
 /// assert_eq!(positions::decode(&[3, 0, 5, 5]), Ok(vec![0, 6, 12]));
-/// assert_eq!(positions::decode(&[0xff, 0xff, 0xff, 0xff, 0x03, 0]), Err(Refusal::TooFewCells));
+/// assert_eq!(positions::decode(&[0xff, 0xff, 0xff, 0xff, 0x03, 0]), Err(Refusal::CellsMissing));
 /// ```
+///
+/// # Errors
+///
+/// As [`decode_into`]. [`Refusal::CellsMissing`] means here that the count is larger than the file's bytes can hold.
 pub fn decode(file: &[u8]) -> Result<Vec<u32>, Refusal> {
     let mut cells = vec![0; file.len().saturating_sub(1).min(MOST)];
     let count = decode_into(file, &mut cells)?;

@@ -2,67 +2,84 @@
 use std::error::Error;
 use std::fmt;
 
-/// A reason to refuse a call. A refused call changes nothing.
+/// Why a call was refused. A refused call changes nothing: no cell, no byte, no mark.
+///
+/// A search is refused with the lowest number that applies, a file with its first fault from front to back. Where none
+/// applies, the call is accepted.
+///
+/// ```
+/// use mitongory::{Pattern, Refusal};
+///
+/// let refusal = Pattern::new(&[], 0).unwrap_err();
+/// assert_eq!((refusal, refusal.number()), (Refusal::PatternLength, 3));
+/// assert_eq!(refusal.to_string(), "refusal 3: the pattern has no bit or more than 2,048 bits");
+/// ```
 #[derive(Clone, Copy, Debug, PartialEq, Eq, Hash)]
 #[repr(u32)]
 #[non_exhaustive]
 pub enum Refusal {
-    /// The recording has more than 2^30 bits.
-    RecordingTooLong = 1,
-    /// The recording has fewer bytes than its bit count needs.
-    RecordingBytesMissing = 2,
-    /// The word has no bit or more than 2,048.
-    WordLength = 3,
-    /// The word has fewer bytes than its bit count needs.
-    WordBytesMissing = 4,
-    /// The word is below 8 bits for hash and H, or below 15 for skip.
-    WordTooShort = 5,
-    /// The mark is above the number of places; for eight bits, fewer than eight bits follow.
+    /// The text has more than 2^30 bits.
+    TextTooLong = 1,
+    /// The text has fewer bytes than its bits take.
+    TextBytesMissing = 2,
+    /// The pattern has no bit or more than 2,048.
+    PatternLength = 3,
+    /// The pattern has fewer bytes than its bits take.
+    PatternBytesMissing = 4,
+    /// The pattern is below 8 bits for hash and H, or below 15 for skip.
+    PatternTooShort = 5,
+    /// The mark is above the number of places; for eight bits, fewer than eight follow.
     BeyondEnd = 6,
-    /// The scratch has fewer than 4,224 cells.
+    /// The scratch has fewer than 4,224 cells. A [`Scratch`](crate::Scratch) never has.
     ScratchTooShort = 7,
     /// The positions do not rise strictly, or one is 2^30 or more.
-    NotRising = 8,
+    ListNotRising = 8,
     /// The target has fewer bytes than the list's file.
     TargetTooShort = 9,
     /// The file ends early.
-    EndsEarly = 10,
+    FileEndsEarly = 10,
     /// A number of the file is not in the fewest groups.
-    NotFewestGroups = 11,
-    /// A number or a position of the file is too large.
-    TooLarge = 12,
-    /// Bytes are left over behind the list.
+    NumberNotShortest = 11,
+    /// A number of the file is above 2^30, or a position is 2^30 or more.
+    NumberTooLarge = 12,
+    /// Bytes are left over after the list.
     BytesLeftOver = 13,
     /// There are fewer cells than the file's count.
-    TooFewCells = 14,
+    CellsMissing = 14,
 }
 
 impl Refusal {
     /// Every refusal, by its number.
-    pub const ALL: [Refusal; 14] = [
-        Refusal::RecordingTooLong,
-        Refusal::RecordingBytesMissing,
-        Refusal::WordLength,
-        Refusal::WordBytesMissing,
-        Refusal::WordTooShort,
+    ///
+    /// ```
+    /// use mitongory::Refusal;
+    ///
+    /// assert!(Refusal::ALL.iter().map(|refusal| refusal.number()).eq(1..=14));
+    /// ```
+    pub const ALL: &'static [Refusal] = &[
+        Refusal::TextTooLong,
+        Refusal::TextBytesMissing,
+        Refusal::PatternLength,
+        Refusal::PatternBytesMissing,
+        Refusal::PatternTooShort,
         Refusal::BeyondEnd,
         Refusal::ScratchTooShort,
-        Refusal::NotRising,
+        Refusal::ListNotRising,
         Refusal::TargetTooShort,
-        Refusal::EndsEarly,
-        Refusal::NotFewestGroups,
-        Refusal::TooLarge,
+        Refusal::FileEndsEarly,
+        Refusal::NumberNotShortest,
+        Refusal::NumberTooLarge,
         Refusal::BytesLeftOver,
-        Refusal::TooFewCells,
+        Refusal::CellsMissing,
     ];
 
     /// The number in the requirements, 1 to 14.
     ///
     /// ```
-    /// use mitongory::{Refusal, Word};
-    /// assert_eq!(Word::new(&[], 0).unwrap_err().number(), 3);
+    /// assert_eq!(mitongory::Refusal::BeyondEnd.number(), 6);
     /// ```
-    pub fn number(self) -> u32 {
+    #[must_use]
+    pub const fn number(self) -> u32 {
         self as u32
     }
 
@@ -70,11 +87,13 @@ impl Refusal {
     ///
     /// ```
     /// use mitongory::Refusal;
+    ///
     /// assert_eq!(Refusal::from_number(13), Some(Refusal::BytesLeftOver));
     /// assert_eq!(Refusal::from_number(0), None);
     /// ```
+    #[must_use]
     pub fn from_number(number: u32) -> Option<Refusal> {
-        Refusal::ALL.into_iter().find(|r| r.number() == number)
+        Refusal::ALL.iter().copied().find(|refusal| refusal.number() == number)
     }
 
     /// What a call's number says: 0 is an accepted call.
@@ -82,7 +101,7 @@ impl Refusal {
         match number {
             0 => Ok(()),
             // The crate hands over the four methods and enough answer cells only.
-            _ => Err(Refusal::from_number(number).expect("a refusal of the rules")),
+            _ => Err(Refusal::from_number(number).expect("the library refuses with a number of the rules")),
         }
     }
 }
@@ -90,20 +109,20 @@ impl Refusal {
 impl fmt::Display for Refusal {
     fn fmt(&self, f: &mut fmt::Formatter<'_>) -> fmt::Result {
         let why = match self {
-            Refusal::RecordingTooLong => "the recording has more than 2^30 bits",
-            Refusal::RecordingBytesMissing => "the recording has fewer bytes than its bit count needs",
-            Refusal::WordLength => "the word has no bit or more than 2,048 bits",
-            Refusal::WordBytesMissing => "the word has fewer bytes than its bit count needs",
-            Refusal::WordTooShort => "the word is too short: hash takes 8 bits or more, skip 15 or more",
+            Refusal::TextTooLong => "the text has more than 2^30 bits",
+            Refusal::TextBytesMissing => "the text has fewer bytes than its bits take",
+            Refusal::PatternLength => "the pattern has no bit or more than 2,048 bits",
+            Refusal::PatternBytesMissing => "the pattern has fewer bytes than its bits take",
+            Refusal::PatternTooShort => "the pattern is too short: hash takes 8 bits or more, skip 15 or more",
             Refusal::BeyondEnd => "the mark is above the number of places, or fewer than eight bits follow",
             Refusal::ScratchTooShort => "the scratch has fewer than 4,224 cells",
-            Refusal::NotRising => "the positions do not rise strictly below 2^30",
-            Refusal::TargetTooShort => "the target is shorter than the list's file",
-            Refusal::EndsEarly => "the file ends early",
-            Refusal::NotFewestGroups => "a number of the file is not in the fewest groups",
-            Refusal::TooLarge => "a number or a position of the file is too large",
-            Refusal::BytesLeftOver => "bytes are left over behind the list",
-            Refusal::TooFewCells => "there are fewer cells than the file's count",
+            Refusal::ListNotRising => "the positions do not rise strictly below 2^30",
+            Refusal::TargetTooShort => "the target has fewer bytes than the list's file",
+            Refusal::FileEndsEarly => "the file ends early",
+            Refusal::NumberNotShortest => "a number of the file is not in the fewest groups",
+            Refusal::NumberTooLarge => "a number or a position of the file is too large",
+            Refusal::BytesLeftOver => "bytes are left over after the list",
+            Refusal::CellsMissing => "there are fewer cells than the file's count",
         };
         write!(f, "refusal {}: {why}", self.number())
     }

@@ -1,15 +1,18 @@
 //! The search call: a bounded piece of work that goes on from a mark.
 use crate::ffi;
 use crate::method::Method;
-use crate::recording::Recording;
+use crate::pattern::Pattern;
 use crate::refusal::Refusal;
-use crate::word::Word;
+use crate::text::Text;
+use std::fmt;
 
 /// How many 64-bit cells a call's tables need.
 pub const SCRATCH_CELLS: usize = 4224;
 
-/// The first place that is not yet decided. A search begins at [`Mark::START`] and goes on from the mark in the
-/// answer before.
+/// The first place that is not yet decided.
+///
+/// A search begins at [`Mark::START`], and each further call goes on from the mark in the answer before it. The number
+/// can be stored and a search taken up later: nothing else is needed, and any method may go on.
 #[derive(Clone, Copy, Debug, Default, PartialEq, Eq, PartialOrd, Ord, Hash)]
 pub struct Mark(u32);
 
@@ -17,21 +20,25 @@ impl Mark {
     /// The mark of a fresh search: place 0.
     pub const START: Mark = Mark(0);
 
-    /// A mark at a place. The call refuses with 6 a mark above the number of places.
+    /// A mark at a place. A search refuses a mark above the number of places.
     ///
     /// ```
-    /// assert_eq!(mitongory::Mark::at(0), mitongory::Mark::START);
+    /// use mitongory::Mark;
+    ///
+    /// assert_eq!(Mark::at(0), Mark::START);
     /// ```
-    pub fn at(place: u32) -> Mark {
+    #[must_use]
+    pub const fn at(place: u32) -> Mark {
         Mark(place)
     }
 
-    /// The place that the mark stands at.
+    /// The place that the mark is at.
     ///
     /// ```
     /// assert_eq!(mitongory::Mark::at(7).place(), 7);
     /// ```
-    pub fn place(self) -> u32 {
+    #[must_use]
+    pub const fn place(self) -> u32 {
         self.0
     }
 }
@@ -41,19 +48,20 @@ impl Mark {
 pub enum Stop {
     /// Every place is decided.
     Done,
-    /// The hit at this place found no free cell.
+    /// The occurrence at this place found no free cell in the list. The mark is at it.
     Full(u32),
-    /// The budget was used up before the last place was decided.
+    /// The budget was spent before the last place was decided.
     Spent,
 }
 
 /// What an accepted call answers.
 #[derive(Clone, Copy, Debug, PartialEq, Eq, Hash)]
+#[must_use = "it says how many cells of the list hold occurrences, and where to go on"]
 pub struct Answer {
     /// The steps made, at most the budget.
     pub steps: u32,
-    /// How many hits were written to the front of the list.
-    pub hits: usize,
+    /// How many occurrences were written to the front of the list.
+    pub occurrences: usize,
     /// Where the next call goes on.
     pub mark: Mark,
     /// How the call stopped.
@@ -61,7 +69,7 @@ pub struct Answer {
 }
 
 /// The cells for the tables that a call makes. Any content will do, so one scratch serves every call.
-#[derive(Clone, Debug)]
+#[derive(Clone)]
 pub struct Scratch {
     cells: Vec<u64>,
 }
@@ -73,6 +81,7 @@ impl Scratch {
     /// let scratch = mitongory::Scratch::new();
     /// # drop(scratch);
     /// ```
+    #[must_use]
     pub fn new() -> Scratch {
         Scratch { cells: vec![0; SCRATCH_CELLS] }
     }
@@ -84,32 +93,54 @@ impl Default for Scratch {
     }
 }
 
-/// Makes at most `budget` steps from the mark on and writes the hits, rising, to the front of the list. The cells
-/// behind the answer's hits stay as they were. Refusals: 5 and 6.
+/// The cells mean nothing after a call, so none is shown.
+impl fmt::Debug for Scratch {
+    fn fmt(&self, f: &mut fmt::Formatter<'_>) -> fmt::Result {
+        f.debug_struct("Scratch").finish_non_exhaustive()
+    }
+}
+
+/// Makes at most `budget` steps from the mark on and writes the occurrences, rising, to the front of the list. The
+/// other cells of the list stay as they were.
 ///
-/// Where a list of such calls on one recording and word starts at [`Mark::START`] and each goes on from the mark
-/// before, the places that they wrote, joined, are all hits before the last mark, each once, whatever the methods,
-/// budgets and lists are.
+/// The call stops early where an occurrence finds no free cell. It allocates nothing and keeps nothing: the mark in the
+/// answer is all that the next call needs. Each call makes the method's tables anew, which takes two microseconds or
+/// less, so budgets of ten thousand steps and more lose little by it.
+///
+/// It is proved of every list of such calls on one text and one pattern, of which the first begins at [`Mark::START`]
+/// and each goes on from the mark before it, refused calls among them or not: the places that they wrote, joined, are all
+/// occurrences before the last mark, rising and each once, whatever the methods, budgets and lists are. This is the
+/// theorem `whole` (`crates/capi/proofs/CallList.antt`).
 ///
 /// ```
-/// use mitongory::{search, Mark, Method, Recording, Scratch, Stop, Word};
+/// use mitongory::{search, Bits, Mark, Method, Scratch, Stop};
 ///
-/// # fn main() -> Result<(), mitongory::Refusal> {
-/// let recording = Recording::new(&[0b1111_1000], 5)?;
-/// let word = Word::new(&[0b1110_0000], 3)?;
+/// # fn main() -> Result<(), Box<dyn std::error::Error>> {
+/// let (ones, three): (Bits, Bits) = ("11111".parse()?, "111".parse()?);
+/// let (text, pattern) = (ones.text()?, three.pattern()?);
 /// let (mut list, mut scratch) = ([0; 2], Scratch::new());
 ///
-/// let answer = search(recording, word, Method::Plain, Mark::START, u32::MAX, &mut list, &mut scratch)?;
-/// assert_eq!((list, answer.steps, answer.stop), ([0, 1], 3, Stop::Full(2)));
+/// // The third occurrence finds no free cell.
+/// let answer = search(text, pattern, Method::Plain, Mark::START, u32::MAX, &mut list, &mut scratch)?;
+/// assert_eq!((list, answer.occurrences), ([0, 1], 2));
+/// assert_eq!((answer.steps, answer.mark, answer.stop), (3, Mark::at(2), Stop::Full(2)));
 ///
-/// let answer = search(recording, word, Method::Plain, answer.mark, u32::MAX, &mut list, &mut scratch)?;
-/// assert_eq!((list, answer.hits, answer.stop), ([2, 1], 1, Stop::Done));
+/// // The next call begins with it.
+/// let answer = search(text, pattern, Method::Wide, answer.mark, u32::MAX, &mut list, &mut scratch)?;
+/// assert_eq!((list, answer.occurrences), ([2, 1], 1));
+/// assert_eq!((answer.steps, answer.mark, answer.stop), (1, Mark::at(3), Stop::Done));
 /// # Ok(())
 /// # }
 /// ```
+///
+/// # Errors
+///
+/// [`Refusal::PatternTooShort`] for a pattern that the method does not take, [`Refusal::BeyondEnd`] for a mark above the
+/// number of places, which is `n - m + 1` for `n` bits of text and `m` of pattern, or 0 for a pattern longer than the
+/// text.
 pub fn search(
-    recording: Recording<'_>,
-    word: Word<'_>,
+    text: Text<'_>,
+    pattern: Pattern<'_>,
     method: Method,
     mark: Mark,
     budget: u32,
@@ -118,10 +149,10 @@ pub fn search(
 ) -> Result<Answer, Refusal> {
     let mut answer = [0; 4];
     Refusal::check(ffi::search(
-        recording.bytes(),
-        recording.bit_count(),
-        word.bytes(),
-        word.bit_count(),
+        text.bytes(),
+        text.bit_count(),
+        pattern.bytes(),
+        pattern.bit_count(),
         method.number(),
         mark.place(),
         budget,
@@ -129,10 +160,11 @@ pub fn search(
         &mut scratch.cells,
         &mut answer,
     ))?;
-    let [steps, hits, place, stop] = answer.map(|cell| u32::try_from(cell).expect("steps, hits and places fit"));
+    let [steps, occurrences, place, stop] =
+        answer.map(|cell| u32::try_from(cell).expect("the library answers with numbers of 32 bits"));
     Ok(Answer {
         steps,
-        hits: hits as usize,
+        occurrences: occurrences as usize,
         mark: Mark(place),
         stop: match stop {
             0 => Stop::Done,

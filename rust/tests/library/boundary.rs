@@ -3,10 +3,10 @@
 use mitongory::{ffi, SCRATCH_CELLS};
 
 /// A search with a fresh scratch: the number and the answer.
-fn search(text: &[u8], n: u64, word: &[u8], m: u64, numbers: [u32; 3], list: &mut [u32]) -> (u32, [u64; 4]) {
+fn search(text: &[u8], n: u64, pattern: &[u8], m: u64, numbers: [u32; 3], list: &mut [u32]) -> (u32, [u64; 4]) {
     let ([method, mark, budget], mut answer) = (numbers, [9; 4]);
     let mut scratch = vec![u64::MAX; SCRATCH_CELLS];
-    let said = ffi::search(text, n, word, m, method, mark, budget, list, &mut scratch, &mut answer);
+    let said = ffi::search(text, n, pattern, m, method, mark, budget, list, &mut scratch, &mut answer);
     (said, answer)
 }
 
@@ -73,8 +73,8 @@ fn lengths() {
     for cells in 0..=70 {
         let mut list = vec![7; cells];
         let (said, answer) = search(&bytes, 64, &[0x80], 1, [3, 0, ALL], &mut list);
-        let hits = cells.min(64) as u64;
-        assert_eq!((said, answer), (0, [1, hits, hits, u64::from(cells < 64)]));
+        let places = cells.min(64) as u64;
+        assert_eq!((said, answer), (0, [1, places, places, u64::from(cells < 64)]));
         assert!(list.iter().enumerate().all(|(i, &cell)| cell == if i < 64 { i as u32 } else { 7 }));
     }
     for answer in 0..6 {
@@ -115,10 +115,10 @@ fn odd_addresses() {
     let copy = |from: usize| bytes[from..from + 24].to_vec();
     for (from, method) in (0..8).flat_map(|from| (0..4).map(move |method| (from, method))) {
         let mut list = [0; 8];
-        let (text, word) = (&bytes[from..from + 24], &bytes[from + 5..from + 8]);
-        let at_odd = (search(text, 190, word, 20, [method, 0, ALL], &mut list), list);
-        let (text, word) = (copy(from), copy(from)[5..8].to_vec());
-        assert_eq!(at_odd, (search(&text, 190, &word, 20, [method, 0, ALL], &mut list), list));
+        let (text, pattern) = (&bytes[from..from + 24], &bytes[from + 5..from + 8]);
+        let at_odd = (search(text, 190, pattern, 20, [method, 0, ALL], &mut list), list);
+        let (text, pattern) = (copy(from), copy(from)[5..8].to_vec());
+        assert_eq!(at_odd, (search(&text, 190, &pattern, 20, [method, 0, ALL], &mut list), list));
         assert_eq!((at_odd.0 .1[1], list[0]), (1, 40));
     }
 }
@@ -137,16 +137,16 @@ fn lengths_of_64_bits() {
     assert_eq!(ffi::list_read(&long, &mut [0], &mut answer), 13);
 }
 
-/// The largest recording: 2^30 bits, with the word at its last place only.
+/// The largest text: 2^30 bits, with the pattern at its last place only.
 #[test]
-fn largest_recording() {
+fn largest_text() {
     let mut text = vec![0; 1 << 27];
     text[(1 << 27) - 256..].fill(0xff);
     let (n, m) = (1 << 30, 2_048);
     for method in 0..4 {
         let mut list = [7; 2];
-        let (said, [_, hits, mark, stop]) = search(&text, n, &[0xff; 256], m, [method, 0, ALL], &mut list);
-        assert_eq!((said, hits, mark, stop, list), (0, 1, n - m + 1, 0, [(n - m) as u32, 7]));
+        let (said, [_, places, mark, stop]) = search(&text, n, &[0xff; 256], m, [method, 0, ALL], &mut list);
+        assert_eq!((said, places, mark, stop, list), (0, 1, n - m + 1, 0, [(n - m) as u32, 7]));
         let from = (n - m) as u32;
         assert_eq!(search(&text, n, &[0xff; 256], m, [method, from, ALL], &mut []).1, [1, 0, n - m, 1]);
         assert_eq!(search(&text, n, &[0xff; 256], m, [method, from + 2, ALL], &mut []).0, 6);

@@ -1,10 +1,12 @@
-//! The crate and the library behind it, held to the rules read bit by bit (`rules`) and to a codec written from the
-//! file's rules (`codec`). Every draw comes from one seed, which is printed; MITONGORY_SEED sets another.
+//! The crate and the library under it, held to the rules read bit by bit (`rules`) and to a codec written from the
+//! file's rules (`codec`). Every draw comes from one seed, which is printed; `MITONGORY_SEED` sets another.
+mod archive;
 mod boundary;
 mod buffers;
 mod codec;
 mod files;
-mod hits;
+mod occurrences;
+mod packing;
 mod papers;
 mod random;
 mod refusals;

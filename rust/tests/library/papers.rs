@@ -1,31 +1,32 @@
 //! The course's papers.
-use crate::rules::{pack, parse};
-use mitongory::{positions, search, Mark, Method, Recording, Refusal, Scratch, Stop, Word};
+use mitongory::{positions, search, Bits, Mark, Method, Refusal, Scratch, Stop};
 
 const R1: &str = "011001001000100110100101000101001001";
 const V1: &str = "0100110100";
 const R2: &str = "110010110010110010110010110010110";
 const V2: &str = "110010110010110010110";
 
-/// Steps, hits, the last mark and how it stopped, of one call from 0 with all the budget.
-fn found(recording: &str, word: &str, method: Method, cells: usize) -> Result<(u32, Vec<u32>, u32, Stop), Refusal> {
-    let (t, w, mut list) = (pack(&parse(recording)), pack(&parse(word)), vec![0; cells]);
-    let recording = Recording::new(&t, recording.len() as u64)?;
-    let word = Word::new(&w, word.len() as u64)?;
-    let answer = search(recording, word, method, Mark::START, u32::MAX, &mut list, &mut Scratch::new())?;
-    list.truncate(answer.hits);
+fn bits(characters: &str) -> Bits {
+    characters.parse().unwrap()
+}
+
+/// Steps, places, the last mark and how it stopped, of one call from 0 with all the budget.
+fn found(text: &str, pattern: &str, method: Method, cells: usize) -> Result<(u32, Vec<u32>, u32, Stop), Refusal> {
+    let (text, pattern, mut list) = (bits(text), bits(pattern), vec![0; cells]);
+    let (text, pattern) = (text.text()?, pattern.pattern()?);
+    let answer = search(text, pattern, method, Mark::START, u32::MAX, &mut list, &mut Scratch::new())?;
+    list.truncate(answer.occurrences);
     Ok((answer.steps, list, answer.mark.place(), answer.stop))
 }
 
 /// The marks of calls with a budget of one step.
-fn marks(recording: &str, word: &str, method: Method) -> Vec<u32> {
-    let (t, w) = (pack(&parse(recording)), pack(&parse(word)));
-    let recording = Recording::new(&t, recording.len() as u64).unwrap();
-    let word = Word::new(&w, word.len() as u64).unwrap();
+fn marks(text: &str, pattern: &str, method: Method) -> Vec<u32> {
+    let (text, pattern) = (bits(text), bits(pattern));
+    let (text, pattern) = (text.text().unwrap(), pattern.pattern().unwrap());
     let (mut marks, mut scratch) = (vec![0], Scratch::new());
     loop {
         let mark = Mark::at(*marks.last().unwrap());
-        let answer = search(recording, word, method, mark, 1, &mut [0; 64], &mut scratch).unwrap();
+        let answer = search(text, pattern, method, mark, 1, &mut [0; 64], &mut scratch).unwrap();
         if answer.steps > 0 {
             marks.push(answer.mark.place());
         }
@@ -39,14 +40,14 @@ fn marks(recording: &str, word: &str, method: Method) -> Vec<u32> {
 fn first_paper() {
     assert_eq!(found(R1, V1, Method::Plain, 64), Ok((27, vec![11], 27, Stop::Done)));
     assert_eq!(found(R1, V1, Method::Hash, 64), Ok((5, vec![11], 27, Stop::Done)));
-    assert_eq!(found(R1, V1, Method::Skip, 64), Err(Refusal::WordTooShort));
+    assert_eq!(found(R1, V1, Method::Skip, 64), Err(Refusal::PatternTooShort));
     assert_eq!(found(R1, V1, Method::Wide, 64), Ok((1, vec![11], 27, Stop::Done)));
     assert_eq!(marks(R1, V1, Method::Hash), [0, 7, 11, 17, 26, 27]);
 }
 
 #[test]
 fn second_paper() {
-    for method in Method::ALL {
+    for &method in Method::ALL {
         assert_eq!(found(R2, V2, method, 64).unwrap().1, [0, 6, 12]);
     }
     assert_eq!(marks(R2, V2, Method::Skip), [0, 9, 13]);
@@ -57,11 +58,11 @@ fn second_paper() {
 
 #[test]
 fn hash_values() {
-    let word = pack(&parse(V2));
-    let word = Word::new(&word, 21).unwrap();
+    let v2 = bits(V2);
+    let pattern = v2.pattern().unwrap();
     let rows = [(0b0110_0101, 2), (0b1100_1011, 1), (0b1001_0110, 0), (0b1111_1111, 19), (0b0000_0000, 21)];
     for (value, want) in rows {
-        assert_eq!(word.hash_value(value), Ok(want));
+        assert_eq!(pattern.hash_value(value), Ok(want));
     }
 }
 

@@ -2,7 +2,7 @@
 use std::cell::Cell;
 use std::env;
 
-/// The seed of the run: MITONGORY_SEED, or a fixed one.
+/// The seed of the run: `MITONGORY_SEED`, or a fixed one.
 fn seed() -> u64 {
     match env::var("MITONGORY_SEED") {
         Ok(text) => text.parse().expect("MITONGORY_SEED is a number"),

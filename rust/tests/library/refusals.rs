@@ -1,37 +1,37 @@
 //! The table of refusals: each row's example gives its number, and the values beside it are accepted.
-use mitongory::{ffi, positions, search, Mark, Method, Recording, Refusal, Scratch, Stop, Word};
+use mitongory::{ffi, positions, search, Mark, Method, Pattern, Refusal, Scratch, Stop, Text};
 
 /// A search from a mark with one budget step and no cell.
 fn call(n: u64, m: u64, method: Method, mark: u32) -> Result<Stop, Refusal> {
-    let (text, word) = (vec![0; n.div_ceil(8) as usize], [0; 256]);
-    let (recording, word) = (Recording::new(&text, n)?, Word::new(&word, m)?);
-    search(recording, word, method, Mark::at(mark), 1, &mut [], &mut Scratch::new()).map(|answer| answer.stop)
+    let (text, pattern) = (vec![0; n.div_ceil(8) as usize], [0; 256]);
+    let (text, pattern) = (Text::new(&text, n)?, Pattern::new(&pattern, m)?);
+    search(text, pattern, method, Mark::at(mark), 1, &mut [], &mut Scratch::new()).map(|answer| answer.stop)
 }
 
 #[test]
-fn recordings() {
-    assert_eq!(Recording::new(&[], 1_073_741_825).unwrap_err().number(), 1);
-    assert_eq!(Recording::new(&[], u64::MAX).unwrap_err().number(), 1);
-    assert_eq!(Recording::new(&[0], 9).unwrap_err().number(), 2);
-    assert_eq!(Recording::new(&[], 1).unwrap_err().number(), 2);
-    assert_eq!(Recording::new(&[], 1 << 30).unwrap_err().number(), 2);
-    assert!(Recording::new(&[], 0).is_ok());
-    assert!(Recording::new(&[0], 8).is_ok());
-    assert!(Recording::new(&[0; 3], 9).is_ok());
+fn texts() {
+    assert_eq!(Text::new(&[], 1_073_741_825).unwrap_err().number(), 1);
+    assert_eq!(Text::new(&[], u64::MAX).unwrap_err().number(), 1);
+    assert_eq!(Text::new(&[0], 9).unwrap_err().number(), 2);
+    assert_eq!(Text::new(&[], 1).unwrap_err().number(), 2);
+    assert_eq!(Text::new(&[], 1 << 30).unwrap_err().number(), 2);
+    assert!(Text::new(&[], 0).is_ok());
+    assert!(Text::new(&[0], 8).is_ok());
+    assert!(Text::new(&[0; 3], 9).is_ok());
 }
 
 #[test]
-fn words() {
-    assert_eq!(Word::new(&[], 0).unwrap_err().number(), 3);
-    assert_eq!(Word::new(&[0], 0).unwrap_err().number(), 3);
-    assert_eq!(Word::new(&[0; 300], 2_049).unwrap_err().number(), 3);
-    assert_eq!(Word::new(&[], u64::MAX).unwrap_err().number(), 3);
-    assert_eq!(Word::new(&[0], 9).unwrap_err().number(), 4);
-    assert_eq!(Word::new(&[], 1).unwrap_err().number(), 4);
-    assert_eq!(Word::new(&[0; 255], 2_048).unwrap_err().number(), 4);
-    assert!(Word::new(&[0; 256], 2_048).is_ok());
-    assert!(Word::new(&[0], 1).is_ok());
-    assert!(Word::new(&[0; 9], 1).is_ok());
+fn patterns() {
+    assert_eq!(Pattern::new(&[], 0).unwrap_err().number(), 3);
+    assert_eq!(Pattern::new(&[0], 0).unwrap_err().number(), 3);
+    assert_eq!(Pattern::new(&[0; 300], 2_049).unwrap_err().number(), 3);
+    assert_eq!(Pattern::new(&[], u64::MAX).unwrap_err().number(), 3);
+    assert_eq!(Pattern::new(&[0], 9).unwrap_err().number(), 4);
+    assert_eq!(Pattern::new(&[], 1).unwrap_err().number(), 4);
+    assert_eq!(Pattern::new(&[0; 255], 2_048).unwrap_err().number(), 4);
+    assert!(Pattern::new(&[0; 256], 2_048).is_ok());
+    assert!(Pattern::new(&[0], 1).is_ok());
+    assert!(Pattern::new(&[0; 9], 1).is_ok());
 }
 
 #[test]
@@ -49,7 +49,7 @@ fn search_calls() {
     }
     assert!(number(36, 8, Method::Hash, 0).is_ok());
     assert!(number(36, 15, Method::Skip, 0).is_ok());
-    for method in Method::ALL {
+    for &method in Method::ALL {
         assert_eq!(number(2_047, 2_048, method, 0), Ok(Stop::Done));
         assert_eq!(number(2_048, 2_048, method, 0), Ok(Stop::Full(0)));
     }
@@ -63,12 +63,12 @@ fn search_calls() {
 
 #[test]
 fn eight_bits_and_hash_values() {
-    let recording = Recording::new(&[0xff; 5], 36).unwrap();
-    assert_eq!(recording.eight_bits(28), Ok(0xff));
-    assert_eq!(recording.eight_bits(29).unwrap_err().number(), 6);
-    assert_eq!(recording.eight_bits(u32::MAX).unwrap_err().number(), 6);
-    assert_eq!(Word::new(&[0xff], 7).unwrap().hash_value(0).unwrap_err().number(), 5);
-    assert_eq!(Word::new(&[0xff], 8).unwrap().hash_value(0), Ok(8));
+    let text = Text::new(&[0xff; 5], 36).unwrap();
+    assert_eq!(text.eight_bits(28), Ok(0xff));
+    assert_eq!(text.eight_bits(29).unwrap_err().number(), 6);
+    assert_eq!(text.eight_bits(u32::MAX).unwrap_err().number(), 6);
+    assert_eq!(Pattern::new(&[0xff], 7).unwrap().hash_value(0).unwrap_err().number(), 5);
+    assert_eq!(Pattern::new(&[0xff], 8).unwrap().hash_value(0), Ok(8));
 }
 
 #[test]
@@ -78,7 +78,7 @@ fn lists() {
     assert_eq!(number(positions::encoded_size(&[1 << 30])), Err(8));
     assert_eq!(number(positions::encode_into(&[6, 6], &mut [])), Err(8));
     assert_eq!(number(positions::encode_into(&[300], &mut [0; 2])), Err(9));
-    assert_eq!(positions::encode(&[3, 2]).unwrap_err(), Refusal::NotRising);
+    assert_eq!(positions::encode(&[3, 2]).unwrap_err(), Refusal::ListNotRising);
     let read = |file: &[u8], cells: usize| number(positions::decode_into(file, &mut vec![0; cells]));
     assert_eq!(read(&[0x01], 1), Err(10));
     assert_eq!(read(&[0x01, 0x80, 0x00], 1), Err(11));
@@ -90,7 +90,7 @@ fn lists() {
 
 #[test]
 fn numbers_and_messages() {
-    for (i, refusal) in Refusal::ALL.into_iter().enumerate() {
+    for (i, refusal) in Refusal::ALL.iter().copied().enumerate() {
         assert_eq!(refusal.number(), i as u32 + 1);
         assert_eq!(Refusal::from_number(refusal.number()), Some(refusal));
         assert!(refusal.to_string().starts_with(&format!("refusal {}: ", i + 1)));
@@ -98,10 +98,10 @@ fn numbers_and_messages() {
     for number in [0, 15, 100, 101, u32::MAX] {
         assert_eq!(Refusal::from_number(number), None);
     }
-    let error: Box<dyn std::error::Error> = Refusal::EndsEarly.into();
+    let error: Box<dyn std::error::Error> = Refusal::FileEndsEarly.into();
     assert_eq!(error.to_string(), "refusal 10: the file ends early");
-    for method in Method::ALL {
+    for &method in Method::ALL {
         assert_eq!(method.to_string().parse(), Ok(method));
     }
-    assert!(["", "Plain", "plain ", "tail"].iter().all(|word| word.parse::<Method>().is_err()));
+    assert!(["", "Plain", "plain ", "tail"].iter().all(|name| name.parse::<Method>().is_err()));
 }

@@ -5,20 +5,6 @@ pub fn bits(bytes: &[u8], count: usize) -> Vec<bool> {
     (0..count).map(|p| bytes[p / 8] & (1 << (7 - p % 8)) != 0).collect()
 }
 
-/// Bits as bytes, with zeros behind them.
-pub fn pack(bits: &[bool]) -> Vec<u8> {
-    let mut bytes = vec![0; bits.len().div_ceil(8)];
-    for (p, _) in bits.iter().enumerate().filter(|(_, &bit)| bit) {
-        bytes[p / 8] |= 1 << (7 - p % 8);
-    }
-    bytes
-}
-
-/// The bits that characters 0 and 1 stand for.
-pub fn parse(text: &str) -> Vec<bool> {
-    text.chars().map(|c| c == '1').collect()
-}
-
 /// E, the number of places.
 pub fn places(n: usize, m: usize) -> usize {
     if m <= n {
@@ -28,7 +14,7 @@ pub fn places(n: usize, m: usize) -> usize {
     }
 }
 
-/// A text and a word.
+/// A text and a pattern.
 pub struct Pair {
     pub t: Vec<bool>,
     pub w: Vec<bool>,
@@ -48,7 +34,7 @@ pub fn shortest(method: u32) -> usize {
     }
 }
 
-/// The least d from `from` on at which the word agrees with eight bits that end its window.
+/// The least d from `from` on at which the pattern agrees with eight bits that end its window.
 pub fn least_move(w: &[bool], eight: &[bool], from: usize) -> usize {
     let m = w.len() as isize;
     let meets = |d: usize| {
@@ -81,13 +67,13 @@ impl Pair {
         places(self.t.len(), self.w.len())
     }
 
-    /// The word stands at place s.
-    pub fn hit(&self, s: usize) -> bool {
+    /// The pattern occurs at place s.
+    pub fn occurs(&self, s: usize) -> bool {
         s < self.places() && (0..self.w.len()).all(|j| self.t[s + j] == self.w[j])
     }
 
-    pub fn hits(&self) -> Vec<u32> {
-        (0..self.places()).filter(|&s| self.hit(s)).map(|s| s as u32).collect()
+    pub fn occurrences(&self) -> Vec<u32> {
+        (0..self.places()).filter(|&s| self.occurs(s)).map(|s| s as u32).collect()
     }
 
     /// One step from s < E: the places found, and the next mark.
@@ -121,7 +107,7 @@ impl Pair {
                 return (flags, next.min(end));
             }
         };
-        (found.into_iter().filter(|&a| self.hit(a)).collect(), next.min(end))
+        (found.into_iter().filter(|&a| self.occurs(a)).collect(), next.min(end))
     }
 
     /// The call's loop.

@@ -1,8 +1,8 @@
 //! Search calls against the rules: every answer, list, scratch and refusal.
 use crate::buffers::Lent;
 use crate::random::{Draw, Random};
-use crate::rules::{bits, pack, shortest, Pair, PLAIN, WIDE};
-use mitongory::{ffi, search, Mark, Method, Recording, Scratch, Stop, Word, SCRATCH_CELLS};
+use crate::rules::{bits, shortest, Pair, PLAIN, WIDE};
+use mitongory::{ffi, search, Bits, Mark, Method, Pattern, Scratch, Stop, Text, SCRATCH_CELLS};
 
 /// The buffers of many calls, and how many calls there were.
 struct Caller {
@@ -12,7 +12,7 @@ struct Caller {
     calls: usize,
 }
 
-/// What is handed over beside text and word, and the lengths of the lent buffers.
+/// What is handed over beside text and pattern, and the lengths of the lent buffers.
 #[derive(Clone, Copy, Debug)]
 struct Request {
     method: u32,
@@ -41,12 +41,12 @@ impl Caller {
     }
 
     /// One raw call.
-    fn call(&mut self, text: &[u8], n: u64, word: &[u8], m: u64, r: Request) -> u32 {
+    fn call(&mut self, text: &[u8], n: u64, pattern: &[u8], m: u64, r: Request) -> u32 {
         self.calls += 1;
         ffi::search(
             text,
             n,
-            word,
+            pattern,
             m,
             r.method,
             r.mark,
@@ -57,40 +57,40 @@ impl Caller {
         )
     }
 
-    /// One call on text and word as they are, held to the rules; `pair` has the same bits.
-    fn check(&mut self, text: &[u8], word: &[u8], pair: &Pair, r: Request) {
+    /// One call on text and pattern as they are, held to the rules; `pair` has the same bits.
+    fn check(&mut self, text: &[u8], pattern: &[u8], pair: &Pair, r: Request) {
         let (n, m) = (pair.t.len(), pair.w.len());
         let want = pair.run(r.method, r.mark as usize, r.budget as usize, r.cells);
-        let said = self.call(text, n as u64, word, m as u64, r);
+        let said = self.call(text, n as u64, pattern, m as u64, r);
         let right = said == 0
             && self.answer.begins_with(&want.cells())
             && self.list.begins_with(&want.written)
             && self.scratch.unchanged_but(SCRATCH_CELLS);
-        assert!(right, "n {n}, m {m}, {r:?}: said {said}, text {text:x?}, word {word:x?}, should be {want:?}");
+        assert!(right, "n {n}, m {m}, {r:?}: said {said}, text {text:x?}, pattern {pattern:x?}, should be {want:?}");
     }
 
     /// A call that must be refused with a number and change nothing.
-    fn check_refused(&mut self, text: &[u8], n: u64, word: &[u8], m: u64, r: Request, want: u32) {
-        let said = self.call(text, n, word, m, r);
-        assert_eq!(said, want, "{} bytes, n {n}, {} bytes, m {m}, {r:?}", text.len(), word.len());
+    fn check_refused(&mut self, text: &[u8], n: u64, pattern: &[u8], m: u64, r: Request, want: u32) {
+        let said = self.call(text, n, pattern, m, r);
+        assert_eq!(said, want, "{} bytes, n {n}, {} bytes, m {m}, {r:?}", text.len(), pattern.len());
         assert!(self.list.unchanged() && self.scratch.unchanged() && self.answer.unchanged(), "changed by {want}");
     }
 }
 
-/// All words of up to 4 bits in all texts of up to 6, at every mark.
+/// All patterns of up to 4 bits in all texts of up to 6, at every mark.
 #[test]
 fn every_short_text() {
     let random = Random::of("every_short_text");
     let mut caller = Caller::new(&random, 8);
     for (n, m) in (0..=6).flat_map(|n| (1..=4).map(move |m| (n, m))) {
         for (t, w) in (0..1u8 << n).flat_map(|t| (0..1u8 << m).map(move |w| (t, w))) {
-            let (text, word) = ([((u16::from(t) << 8) >> n) as u8], [((u16::from(w) << 8) >> m) as u8]);
-            let pair = Pair { t: bits(&text, n), w: bits(&word, m) };
+            let (text, pattern) = ([((u16::from(t) << 8) >> n) as u8], [((u16::from(w) << 8) >> m) as u8]);
+            let pair = Pair { t: bits(&text, n), w: bits(&pattern, m) };
             for mark in 0..=pair.places() as u32 {
                 for (budget, cells) in [0, 1, 2, u32::MAX].into_iter().flat_map(|b| [0, 1, 2, 8].map(|c| (b, c))) {
                     for method in [PLAIN, WIDE] {
                         let r = Request { method, mark, budget, cells, scratch: SCRATCH_CELLS, answer: 4 };
-                        caller.check(&text, &word, &pair, r);
+                        caller.check(&text, &pattern, &pair, r);
                     }
                 }
             }
@@ -100,10 +100,10 @@ fn every_short_text() {
     assert!(caller.calls > 400_000);
 }
 
-/// A text and a word of it or near it. Bytes behind the last bit and bits behind the count have any content.
+/// A text and a pattern of it or near it. Bytes after the last bit and bits after the count have any content.
 struct Drawn {
     text: Vec<u8>,
-    word: Vec<u8>,
+    pattern: Vec<u8>,
     pair: Pair,
 }
 
@@ -120,9 +120,9 @@ fn drawn_bits(random: &Random, count: usize) -> Vec<bool> {
     }
 }
 
-/// The bits packed, with up to two bytes more, and with other bits behind the last one.
+/// The bits packed, with up to two bytes more, and with other bits after the last one.
 fn packed(random: &Random, bits: &[bool]) -> Vec<u8> {
-    let mut bytes = pack(bits);
+    let mut bytes = bits.iter().copied().collect::<Bits>().bytes().to_vec();
     if let (Some(last), spare @ 1..) = (bytes.last_mut(), (8 - bits.len() % 8) % 8) {
         *last |= u8::draw(random) & ((1 << spare) - 1);
     }
@@ -143,7 +143,7 @@ fn drawn(random: &Random, n: usize, m: usize) -> Drawn {
             w[random.below(m)] ^= true;
         }
     }
-    Drawn { text: packed(random, &t), word: packed(random, &w), pair: Pair { t, w } }
+    Drawn { text: packed(random, &t), pattern: packed(random, &w), pair: Pair { t, w } }
 }
 
 /// An accepted request at any mark.
@@ -159,20 +159,20 @@ fn request(random: &Random, pair: &Pair, method: u32, most: usize) -> Request {
 }
 
 impl Caller {
-    /// Some calls with each method that takes the word, on one drawn text.
+    /// Some calls with each method that takes the pattern, on one drawn text.
     fn check_drawn(&mut self, random: &Random, n: usize, m: usize, most: usize) {
         let x = drawn(random, n, m);
         self.redraw(random);
         for method in (0..4).filter(|&method| shortest(method) <= m) {
             for _ in 0..6 {
                 let r = request(random, &x.pair, method, most);
-                self.check(&x.text, &x.word, &x.pair, r);
+                self.check(&x.text, &x.pattern, &x.pair, r);
             }
         }
     }
 }
 
-/// A million calls on drawn texts of up to some hundred bits, with every method that takes the word.
+/// A million calls on drawn texts of up to some hundred bits, with every method that takes the pattern.
 #[test]
 fn a_million_drawn_calls() {
     let random = Random::of("a_million_drawn_calls");
@@ -185,22 +185,22 @@ fn a_million_drawn_calls() {
     println!("a_million_drawn_calls: {} calls", caller.calls);
 }
 
-/// Longer texts and words, up to the longest word.
+/// Longer texts and patterns, up to the longest pattern.
 #[test]
-fn long_texts_and_words() {
-    let random = Random::of("long_texts_and_words");
+fn long_texts_and_patterns() {
+    let random = Random::of("long_texts_and_patterns");
     let mut caller = Caller::new(&random, 20_000);
     for _ in 0..400 {
         let (n, m) = (random.one_of(&[2_000, 6_000, 20_000]), random.one_of(&[64, 300, 2_048]));
         let (n, m) = (random.below(n), m - random.below(m).min(random.below(m)));
         caller.check_drawn(&random, n, m, 20_000);
     }
-    println!("long_texts_and_words: {} calls", caller.calls);
+    println!("long_texts_and_patterns: {} calls", caller.calls);
     assert!(caller.calls > 5_000);
 }
 
-/// Calls of any method, budget and list from mark 0 on, each from the mark left: their places, joined, are the hits
-/// before the last mark, and they end.
+/// Calls of any method, budget and list from mark 0 on, each from the mark left: their places, joined, are the
+/// occurrences before the last mark, and they end.
 #[test]
 fn joined_lists() {
     let random = Random::of("joined_lists");
@@ -209,25 +209,25 @@ fn joined_lists() {
         let m = random.one_of(&[1, 3, 8, 15, 33, 70]);
         let n = random.below(700);
         let x = drawn(&random, n, m);
-        let recording = Recording::new(&x.text, n as u64).unwrap();
-        let word = Word::new(&x.word, m as u64).unwrap();
+        let text = Text::new(&x.text, n as u64).unwrap();
+        let pattern = Pattern::new(&x.pattern, m as u64).unwrap();
         let (mut mark, mut joined, mut steps, mut fulls) = (Mark::START, Vec::<u32>::new(), 0, 0);
         loop {
-            let method = random.one_of(&Method::ALL);
+            let method = random.one_of(Method::ALL);
             let budget = random.one_of(&[0, 1, 5, 40, u32::MAX]);
             let cells = random.below(list.len() + 1);
             calls += 1;
-            let Ok(answer) = search(recording, word, method, mark, budget, &mut list[..cells], &mut scratch) else {
+            let Ok(answer) = search(text, pattern, method, mark, budget, &mut list[..cells], &mut scratch) else {
                 assert!(m < shortest(method as u32));
                 continue;
             };
-            joined.extend(&list[..answer.hits]);
+            joined.extend(&list[..answer.occurrences]);
             mark = answer.mark;
             steps += answer.steps;
             fulls += u32::from(answer.stop == Stop::Full(mark.place()));
             assert!(answer.stop != Stop::Spent || answer.steps == budget);
             assert!(steps <= mark.place() + fulls);
-            let before: Vec<u32> = x.pair.hits().into_iter().filter(|&s| s < mark.place()).collect();
+            let before: Vec<u32> = x.pair.occurrences().into_iter().filter(|&s| s < mark.place()).collect();
             assert_eq!(joined, before);
             assert_eq!(answer.stop == Stop::Done, mark.place() as usize + m > n);
             if answer.stop == Stop::Done {
@@ -240,7 +240,7 @@ fn joined_lists() {
 }
 
 /// The refusals 100, 101 and 1 to 7, first to last.
-fn refusal(text: &[u8], n: u64, word: &[u8], m: u64, r: Request) -> u32 {
+fn refusal(text: &[u8], n: u64, pattern: &[u8], m: u64, r: Request) -> u32 {
     let places = if m <= n { n.wrapping_sub(m).wrapping_add(1) } else { 0 };
     let rows = [
         (100, r.method > 3),
@@ -248,7 +248,7 @@ fn refusal(text: &[u8], n: u64, word: &[u8], m: u64, r: Request) -> u32 {
         (1, n > 1 << 30),
         (2, (text.len() as u64) < n.div_ceil(8)),
         (3, m == 0 || m > 2_048),
-        (4, (word.len() as u64) < m.div_ceil(8)),
+        (4, (pattern.len() as u64) < m.div_ceil(8)),
         (5, m < shortest(r.method) as u64),
         (6, u64::from(r.mark) > places),
         (7, r.scratch < 4_224),
@@ -279,7 +279,7 @@ fn refusals_in_order() {
             }
         };
         let text = &bytes[..enough(&random, n)];
-        let word = &bytes[300 - enough(&random, m)..];
+        let pattern = &bytes[300 - enough(&random, m)..];
         let places = if m <= n { n.wrapping_sub(m).wrapping_add(1) } else { 0 };
         let near = places.wrapping_add(random.below(3) as u64).wrapping_sub(1) as u32;
         let r = Request {
@@ -290,13 +290,13 @@ fn refusals_in_order() {
             scratch: random.one_of(&[0, 1, 4_223, 4_224, 4_224, 4_224, 4_224, 4_225]),
             answer: random.one_of(&[0, 1, 2, 3, 4, 4, 4, 4, 4, 4, 4, 4, 4, 4, 5]),
         };
-        let want = refusal(text, n, word, m, r);
+        let want = refusal(text, n, pattern, m, r);
         *seen.entry(want).or_insert(0) += 1;
         if want == 0 {
-            let pair = Pair { t: bits(text, n as usize), w: bits(word, m as usize) };
-            caller.check(text, word, &pair, r);
+            let pair = Pair { t: bits(text, n as usize), w: bits(pattern, m as usize) };
+            caller.check(text, pattern, &pair, r);
         } else {
-            caller.check_refused(text, n, word, m, r, want);
+            caller.check_refused(text, n, pattern, m, r, want);
         }
     }
     println!("refusals_in_order: {} calls, by number {seen:?}", caller.calls);

@@ -47,7 +47,7 @@ fn hash_value() {
     let random = Random::of("hash_value");
     let (mut calls, mut answer) = (0, Lent::new(&random, 4));
     let long: Vec<u8> = (0..257).map(|_| random.draw() as u8).collect();
-    // All bytes alike, with all bits alike or not: words that agree with themselves after many moves.
+    // All bytes alike, with all bits alike or not: patterns that agree with themselves after many moves.
     let alike: Vec<Vec<u8>> = [0, 255, 0b0101_0101, 0b0001_0001].map(|b| vec![b; 257]).into();
     for round in 0..1_500 {
         let bytes = if round % 3 == 0 { &alike[random.below(4)] } else { &long };

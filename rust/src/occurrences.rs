@@ -1,0 +1,233 @@
+//! All occurrences of a pattern, one after another.
+use crate::method::Method;
+use crate::pattern::Pattern;
+use crate::refusal::Refusal;
+use crate::search::{search, Mark, Scratch, Stop};
+use crate::text::Text;
+use std::fmt;
+use std::iter::FusedIterator;
+
+/// How many occurrences a call may write. Each call makes its tables anew, up to two microseconds of work; over so many
+/// occurrences that is little.
+const CELLS: usize = 1024;
+
+/// An iterator over all occurrences of a pattern, rising: the places at which it stands in a text.
+///
+/// It calls [`search`] with a list of its own and goes on from the mark. That no occurrence is missing and none comes
+/// twice is the theorem named there, which speaks of every such list of calls.
+///
+/// ```
+/// use mitongory::{Bits, Method, Occurrences};
+///
+/// # fn main() -> Result<(), Box<dyn std::error::Error>> {
+/// let (ones, three): (Bits, Bits) = ("11111".parse()?, "111".parse()?);
+/// let occurrences = Occurrences::new(ones.text()?, three.pattern()?, Method::Wide)?;
+/// assert!(occurrences.eq([0, 1, 2]));
+/// # Ok(())
+/// # }
+/// ```
+///
+/// `next` goes on until it finds an occurrence, which in a text of 2^30 bits may take seconds. A caller that wants to
+/// stop earlier or to show how far the search came uses [`next_within`](Occurrences::next_within), which makes one
+/// bounded call at most. [`mark`](Occurrences::mark) says where the iterator is, and
+/// [`resume`](Occurrences::resume) makes one that goes on from there.
+#[derive(Clone)]
+#[must_use = "an iterator does nothing until it is asked"]
+pub struct Occurrences<'a> {
+    text: Text<'a>,
+    pattern: Pattern<'a>,
+    method: Method,
+    /// Where the next call goes on.
+    next_call: Mark,
+    done: bool,
+    scratch: Scratch,
+    list: Vec<u32>,
+    /// The occurrences of the last call are `list[..written]`, and those from `next` on are still to be given.
+    written: usize,
+    next: usize,
+}
+
+/// What [`Occurrences::next_within`] came to.
+#[derive(Clone, Copy, Debug, PartialEq, Eq, Hash)]
+#[must_use = "it may hold an occurrence"]
+pub enum Progress {
+    /// The next occurrence.
+    Occurrence(u32),
+    /// The budget was spent before the next occurrence, and there is none before this mark that was not given.
+    Working(Mark),
+    /// Every occurrence was given.
+    Done,
+}
+
+impl<'a> Occurrences<'a> {
+    /// All occurrences of a pattern in a text.
+    ///
+    /// ```
+    /// use mitongory::{Method, Occurrences, Pattern, Refusal, Text};
+    ///
+    /// # fn main() -> Result<(), Refusal> {
+    /// let text = Text::from_bytes(&[0x0f, 0x0f])?;
+    /// let pattern = Pattern::new(&[0xf0], 4)?;
+    /// assert!(Occurrences::new(text, pattern, Method::Plain)?.eq([4, 12]));
+    /// assert_eq!(Occurrences::new(text, pattern, Method::Hash).unwrap_err(), Refusal::PatternTooShort);
+    /// # Ok(())
+    /// # }
+    /// ```
+    ///
+    /// # Errors
+    ///
+    /// [`Refusal::PatternTooShort`] for a pattern that the method does not take.
+    pub fn new(text: Text<'a>, pattern: Pattern<'a>, method: Method) -> Result<Occurrences<'a>, Refusal> {
+        Occurrences::resume(text, pattern, method, Mark::START)
+    }
+
+    /// All occurrences at the mark's place or after it. With the mark of another iterator over the same text and
+    /// pattern, it goes on where that one is, also with another method.
+    ///
+    /// ```
+    /// use mitongory::{Mark, Method, Occurrences, Pattern, Refusal, Text};
+    ///
+    /// # fn main() -> Result<(), Refusal> {
+    /// let (text, pattern) = (Text::from_bytes(&[0x0f, 0x0f])?, Pattern::new(&[0xf0], 4)?);
+    /// let mut first = Occurrences::new(text, pattern, Method::Plain)?;
+    /// assert_eq!(first.next(), Some(4));
+    /// assert!(Occurrences::resume(text, pattern, Method::Wide, first.mark())?.eq([12]));
+    /// # Ok(())
+    /// # }
+    /// ```
+    ///
+    /// # Errors
+    ///
+    /// [`Refusal::PatternTooShort`] for a pattern that the method does not take, [`Refusal::BeyondEnd`] for a mark above
+    /// the number of places.
+    pub fn resume(
+        text: Text<'a>,
+        pattern: Pattern<'a>,
+        method: Method,
+        mark: Mark,
+    ) -> Result<Occurrences<'a>, Refusal> {
+        let mut scratch = Scratch::new();
+        // A call with no budget makes no step, but judges every refusal.
+        let answer = search(text, pattern, method, mark, 0, &mut [], &mut scratch)?;
+        Ok(Occurrences {
+            text,
+            pattern,
+            method,
+            next_call: answer.mark,
+            done: answer.stop == Stop::Done,
+            scratch,
+            list: vec![0; CELLS],
+            written: 0,
+            next: 0,
+        })
+    }
+
+    /// Where the iterator is: no occurrence before this mark is still to be given, and none from it on was given.
+    ///
+    /// ```
+    /// use mitongory::{Mark, Method, Occurrences, Pattern, Refusal, Text};
+    ///
+    /// # fn main() -> Result<(), Refusal> {
+    /// let (text, pattern) = (Text::from_bytes(&[0x0f, 0x0f])?, Pattern::new(&[0xf0], 4)?);
+    /// let mut occurrences = Occurrences::new(text, pattern, Method::Plain)?;
+    /// assert_eq!(occurrences.mark(), Mark::START);
+    /// occurrences.by_ref().count();
+    /// assert_eq!(occurrences.mark(), Mark::at(13));
+    /// # Ok(())
+    /// # }
+    /// ```
+    #[must_use]
+    pub fn mark(&self) -> Mark {
+        match self.found().first() {
+            Some(&place) => Mark::at(place),
+            None => self.next_call,
+        }
+    }
+
+    /// The next occurrence, if it is at hand or one call of [`search`] with this budget of steps finds it; else how far
+    /// the search came. No more than one call is made.
+    ///
+    /// What a step costs depends on the [`Method`] and on the pattern. With a budget of 0 nothing moves.
+    ///
+    /// ```
+    /// use mitongory::{Mark, Method, Occurrences, Pattern, Progress, Refusal, Text};
+    ///
+    /// # fn main() -> Result<(), Refusal> {
+    /// // One 1, at place 100 of 201.
+    /// let mut bytes = [0; 26];
+    /// bytes[12] = 0b0000_1000;
+    /// let mut occurrences = Occurrences::new(Text::new(&bytes, 201)?, Pattern::new(&[0x80], 1)?, Method::Plain)?;
+    ///
+    /// assert_eq!(occurrences.next_within(60), Progress::Working(Mark::at(60)));
+    /// assert_eq!(occurrences.next_within(60), Progress::Occurrence(100));
+    /// // The call that found it went on to place 120.
+    /// assert_eq!(occurrences.next_within(60), Progress::Working(Mark::at(180)));
+    /// assert_eq!(occurrences.next_within(60), Progress::Done);
+    /// # Ok(())
+    /// # }
+    /// ```
+    pub fn next_within(&mut self, budget: u32) -> Progress {
+        if self.found().is_empty() && !self.done {
+            self.call(budget);
+        }
+        match self.found().first() {
+            Some(&place) => {
+                self.next += 1;
+                Progress::Occurrence(place)
+            }
+            None if self.done => Progress::Done,
+            None => Progress::Working(self.next_call),
+        }
+    }
+
+    /// The occurrences that are at hand.
+    fn found(&self) -> &[u32] {
+        &self.list[self.next..self.written]
+    }
+
+    /// One more call.
+    fn call(&mut self, budget: u32) {
+        let (text, pattern, method, mark) = (self.text, self.pattern, self.method, self.next_call);
+        let answer = search(text, pattern, method, mark, budget, &mut self.list, &mut self.scratch)
+            .expect("what was accepted once is accepted at any later mark");
+        self.next_call = answer.mark;
+        self.done = answer.stop == Stop::Done;
+        self.written = answer.occurrences;
+        self.next = 0;
+    }
+}
+
+impl Iterator for Occurrences<'_> {
+    type Item = u32;
+
+    fn next(&mut self) -> Option<u32> {
+        loop {
+            match self.next_within(u32::MAX) {
+                Progress::Occurrence(place) => return Some(place),
+                Progress::Working(_) => {}
+                Progress::Done => return None,
+            }
+        }
+    }
+
+    fn size_hint(&self) -> (usize, Option<usize>) {
+        let found = self.found().len();
+        // No more occurrences than bits after the mark.
+        let left = if self.done { 0 } else { self.text.bit_count() - u64::from(self.next_call.place()) };
+        (found, Some(found + left as usize))
+    }
+}
+
+impl FusedIterator for Occurrences<'_> {}
+
+/// What is searched, how, and how far it came; neither the list nor the scratch.
+impl fmt::Debug for Occurrences<'_> {
+    fn fmt(&self, f: &mut fmt::Formatter<'_>) -> fmt::Result {
+        f.debug_struct("Occurrences")
+            .field("text", &self.text)
+            .field("pattern", &self.pattern)
+            .field("method", &self.method)
+            .field("mark", &self.mark())
+            .finish_non_exhaustive()
+    }
+}

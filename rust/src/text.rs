@@ -1,0 +1,110 @@
+//! The text: packed bits to search in.
+use crate::ffi;
+use crate::packed::Packed;
+use crate::refusal::Refusal;
+use std::fmt;
+
+/// The bits to search in: borrowed bytes and a bit count of at most 2^30.
+///
+/// Bit `p` is the bit of weight `2^(7 - p % 8)` in byte `p / 8`. There may be more bytes than the bits take. Bits from
+/// the count on never matter: two texts are equal just if they have the same bits, whatever comes after these.
+///
+/// ```
+/// use mitongory::Text;
+///
+/// # fn main() -> Result<(), mitongory::Refusal> {
+/// let text = Text::new(&[0b1010_0000], 3)?;
+/// assert_eq!(text, Text::new(&[0b1011_1111, 0xff], 3)?);
+/// assert_ne!(text, Text::new(&[0b1010_0000], 4)?);
+/// # Ok(())
+/// # }
+/// ```
+///
+/// The `Debug` form shows the bit count and no more than the first 64 bits.
+///
+/// ```
+/// let text = mitongory::Text::new(&[0b1010_0000], 3).unwrap();
+/// assert_eq!(format!("{text:?}"), "Text { bit_count: 3, bits: 101 }");
+/// ```
+#[derive(Clone, Copy, PartialEq, Eq, Hash)]
+pub struct Text<'a>(Packed<'a>);
+
+impl<'a> Text<'a> {
+    /// The first `bit_count` bits of `bytes`.
+    ///
+    /// ```
+    /// use mitongory::{Refusal, Text};
+    ///
+    /// assert_eq!(Text::new(&[0xff, 0x80], 9).unwrap().bit_count(), 9);
+    /// assert_eq!(Text::new(&[0xff], 9), Err(Refusal::TextBytesMissing));
+    /// ```
+    ///
+    /// # Errors
+    ///
+    /// [`Refusal::TextTooLong`] above 2^30 bits, [`Refusal::TextBytesMissing`] for fewer bytes than the bits take.
+    pub fn new(bytes: &'a [u8], bit_count: u64) -> Result<Text<'a>, Refusal> {
+        // The library judges: of its call for eight bits, refusals 1 and 2 speak of the text, 6 of the place.
+        match Refusal::check(ffi::eight_bits(bytes, bit_count, 0, &mut [0])) {
+            Ok(()) | Err(Refusal::BeyondEnd) => Ok(Text(Packed { bytes, bit_count })),
+            Err(refusal) => Err(refusal),
+        }
+    }
+
+    /// All bits of `bytes`, eight for each.
+    ///
+    /// ```
+    /// assert_eq!(mitongory::Text::from_bytes(b"bits").unwrap().bit_count(), 32);
+    /// ```
+    ///
+    /// # Errors
+    ///
+    /// [`Refusal::TextTooLong`] above 2^27 bytes.
+    pub fn from_bytes(bytes: &'a [u8]) -> Result<Text<'a>, Refusal> {
+        Text::new(bytes, (bytes.len() as u64).saturating_mul(8))
+    }
+
+    /// The bytes that were lent, all of them.
+    ///
+    /// ```
+    /// assert_eq!(mitongory::Text::new(&[1, 2], 3).unwrap().bytes(), [1, 2]);
+    /// ```
+    #[must_use]
+    pub const fn bytes(&self) -> &'a [u8] {
+        self.0.bytes
+    }
+
+    /// How many bits the text has.
+    ///
+    /// ```
+    /// assert_eq!(mitongory::Text::new(&[], 0).unwrap().bit_count(), 0);
+    /// ```
+    #[must_use]
+    pub const fn bit_count(&self) -> u64 {
+        self.0.bit_count
+    }
+
+    /// The eight bits from bit `place` on, as a byte with that bit leftmost.
+    ///
+    /// ```
+    /// use mitongory::{Refusal, Text};
+    ///
+    /// let text = Text::new(&[0xab, 0xcd], 13).unwrap();
+    /// assert_eq!(text.eight_bits(4), Ok(0xbc));
+    /// assert_eq!(text.eight_bits(6), Err(Refusal::BeyondEnd));
+    /// ```
+    ///
+    /// # Errors
+    ///
+    /// [`Refusal::BeyondEnd`] where fewer than eight bits follow.
+    pub fn eight_bits(&self, place: u32) -> Result<u8, Refusal> {
+        let mut answer = [0];
+        Refusal::check(ffi::eight_bits(self.bytes(), self.bit_count(), place, &mut answer))?;
+        Ok(u8::try_from(answer[0]).expect("the library answers with a byte"))
+    }
+}
+
+impl fmt::Debug for Text<'_> {
+    fn fmt(&self, f: &mut fmt::Formatter<'_>) -> fmt::Result {
+        self.0.debug("Text", f)
+    }
+}
