@@ -21,7 +21,8 @@ fn main() {
     };
     println!("cargo:rerun-if-changed={}", dir.join(ARCHIVE).display());
     let version = [of_cargo("CARGO_PKG_VERSION_MAJOR"), of_cargo("CARGO_PKG_VERSION_MINOR")];
-    if let Err(why) = judge(&dir, &of_cargo("CARGO_CFG_TARGET_ARCH"), &version.join("_")) {
+    let target = [of_cargo("CARGO_CFG_TARGET_ARCH"), of_cargo("CARGO_CFG_TARGET_OS")];
+    if let Err(why) = judge(&dir, &target.join("-"), &version.join("_")) {
         eprintln!("mitongory: {why}");
         process::exit(1);
     }
@@ -35,11 +36,11 @@ fn of_cargo(name: &str) -> String {
     env::var(name).unwrap_or_else(|_| panic!("cargo sets {name}"))
 }
 
-/// Whether the crate of a version (major and minor, as in a symbol) can be built for a target with a folder's archive;
-/// or why not.
-pub(crate) fn judge(dir: &Path, target_arch: &str, version: &str) -> Result<(), String> {
-    if target_arch != "x86_64" {
-        return Err(format!("the archive is x86-64 code, and the target is {target_arch}"));
+/// Whether the crate of a version (major and minor, as in a symbol) can be built for a target (architecture and system)
+/// with a folder's archive; or why not.
+pub(crate) fn judge(dir: &Path, target: &str, version: &str) -> Result<(), String> {
+    if target != "x86_64-linux" {
+        return Err(format!("the archive is code for x86_64-linux, and the target is {target}"));
     }
     let archive = dir.join(ARCHIVE);
     let bytes = fs::read(&archive).map_err(|error| {
@@ -57,15 +58,14 @@ pub(crate) fn judge(dir: &Path, target_arch: &str, version: &str) -> Result<(), 
     Err(format!("the crate has version {version} and needs {wanted}, but {path} exports {found}: run `make lib` again"))
 }
 
-/// The version symbols in an archive's bytes, whole: `mitongory_version_0_2` is not found in `mitongory_version_0_20`.
+/// The version symbols in an archive's bytes. Each is taken whole, so that `mitongory_version_0_2` is not found in
+/// `mitongory_version_0_20`, and the name of a section, in which a point comes before it, is none.
 fn version_symbols(archive: &[u8]) -> BTreeSet<String> {
     let prefix = VERSION_SYMBOL.as_bytes();
-    let starts = archive.windows(prefix.len()).enumerate().filter(|(_, name)| *name == prefix);
-    starts
-        .map(|(at, _)| {
-            let rest = archive[at + prefix.len()..].iter();
-            let version = rest.take_while(|byte| byte.is_ascii_digit() || **byte == b'_');
-            VERSION_SYMBOL.chars().chain(version.map(|&byte| char::from(byte))).collect()
-        })
-        .collect()
+    let begins = |at: &usize| archive[*at..].starts_with(prefix) && (*at == 0 || archive[*at - 1] != b'.');
+    let symbol = |at: usize| {
+        let version = archive[at + prefix.len()..].iter().map(|&byte| char::from(byte));
+        VERSION_SYMBOL.chars().chain(version.take_while(|c| c.is_ascii_digit() || *c == '_')).collect()
+    };
+    (0..archive.len()).filter(begins).map(symbol).collect()
 }

@@ -32,13 +32,13 @@
 //! `p` is the bit of weight `2^(7 - p % 8)` in byte `p / 8`. So the 13 bits `1100101100101` are two bytes:
 //!
 //! ```text
-//!   byte              0                         1
-//!             ┌──────────────────┐   ┌──────────────────────┐
-//!   bits       1 1 0 0 1 0 1 1        0 0  1  0  1  ·  ·  ·        0xcb, 0x28
-//!   bit number 0 1 2 3 4 5 6 7        8 9 10 11 12                 13 bits
+//! byte          0: 0xcb                    1: 0x28
+//! weight      128 64 32 16  8  4  2  1   128 64 32 16  8  4  2  1
+//! bit           1  1  0  0  1  0  1  1     0  0  1  0  1  .  .  .
+//! bit number    0  1  2  3  4  5  6  7     8  9 10 11 12
 //! ```
 //!
-//! The bits at the dots never matter. [`Text`] and [`Pattern`] borrow such bytes; [`Bits`] owns them and is made from
+//! What is at the dots never matters. [`Text`] and [`Pattern`] borrow such bytes; [`Bits`] owns them and is made from
 //! characters 0 and 1. Whole bytes are eight bits each:
 //!
 //! ```
@@ -130,6 +130,7 @@
 //! the crate is tested against a naive search and a naive codec. `unsafe` stands in one module, around the calls.
 
 mod bits;
+mod call;
 #[doc(hidden)]
 pub mod ffi;
 mod method;

@@ -1,4 +1,5 @@
 //! What a text and a pattern have in common: they are the first bits of some bytes.
+use crate::refusal::Refusal;
 use std::fmt;
 use std::hash::{Hash, Hasher};
 
@@ -12,7 +13,26 @@ pub(crate) struct Packed<'a> {
     pub(crate) bit_count: u64,
 }
 
+/// How many bits there are in whole bytes.
+pub(crate) const fn bits_in(bytes: &[u8]) -> u64 {
+    (bytes.len() as u64).saturating_mul(8)
+}
+
 impl<'a> Packed<'a> {
+    /// The bits, unless the library refused a call on them. The limits are the library's alone: `said` is what it says
+    /// of the bits in a call that may also be refused with `beside`, for a reason that is none here.
+    pub(crate) fn judged(
+        bytes: &'a [u8],
+        bit_count: u64,
+        said: Result<(), Refusal>,
+        beside: Refusal,
+    ) -> Result<Packed<'a>, Refusal> {
+        match said {
+            Err(refusal) if refusal != beside => Err(refusal),
+            _ => Ok(Packed { bytes, bit_count }),
+        }
+    }
+
     /// The bytes that the bits fill whole, and the bits after these, with zeros in place of the padding.
     fn parts(self) -> (&'a [u8], u8) {
         let (whole, rest) = self.bytes.split_at((self.bit_count / 8) as usize);

@@ -1,7 +1,7 @@
 //! The pattern: packed bits to search for.
-use crate::ffi;
-use crate::packed::Packed;
+use crate::packed::{self, Packed};
 use crate::refusal::Refusal;
+use crate::{call, ffi};
 use std::fmt;
 
 /// The bits to search for: borrowed bytes and a bit count of 1 to 2,048, packed as in a [`Text`](crate::Text).
@@ -36,11 +36,9 @@ impl<'a> Pattern<'a> {
     /// [`Refusal::PatternLength`] for no bit or more than 2,048, [`Refusal::PatternBytesMissing`] for fewer bytes than
     /// the bits take.
     pub fn new(bytes: &'a [u8], bit_count: u64) -> Result<Pattern<'a>, Refusal> {
-        // The library judges: of its call for H, refusals 3 and 4 speak of the pattern, 5 of one too short for H.
-        match Refusal::check(ffi::hash_value(bytes, bit_count, 0, &mut [0])) {
-            Ok(()) | Err(Refusal::PatternTooShort) => Ok(Pattern(Packed { bytes, bit_count })),
-            Err(refusal) => Err(refusal),
-        }
+        // Of the call for H, refusals 3 and 4 speak of every pattern, and 5 of one too short for H.
+        let said = call::check(ffi::hash_value(bytes, bit_count, 0, &mut [0]));
+        Packed::judged(bytes, bit_count, said, Refusal::PatternTooShort).map(Pattern)
     }
 
     /// All bits of `bytes`, eight for each.
@@ -56,7 +54,7 @@ impl<'a> Pattern<'a> {
     ///
     /// [`Refusal::PatternLength`] for no byte or more than 256.
     pub fn from_bytes(bytes: &'a [u8]) -> Result<Pattern<'a>, Refusal> {
-        Pattern::new(bytes, (bytes.len() as u64).saturating_mul(8))
+        Pattern::new(bytes, packed::bits_in(bytes))
     }
 
     /// The bytes that were lent, all of them.
@@ -93,9 +91,7 @@ impl<'a> Pattern<'a> {
     ///
     /// [`Refusal::PatternTooShort`] for a pattern below 8 bits.
     pub fn hash_value(&self, value: u8) -> Result<u32, Refusal> {
-        let mut answer = [0];
-        Refusal::check(ffi::hash_value(self.bytes(), self.bit_count(), value, &mut answer))?;
-        Ok(u32::try_from(answer[0]).expect("the library answers with at most 2,048"))
+        call::answer(|cell| ffi::hash_value(self.bytes(), self.bit_count(), value, cell))
     }
 }
 

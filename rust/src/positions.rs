@@ -18,17 +18,11 @@
 //! ```
 //!
 //! A file names no text and no pattern: what its positions mean is the caller's to know.
-use crate::ffi;
 use crate::refusal::Refusal;
+use crate::{call, ffi};
 
 /// No file holds more positions than there are numbers below 2^30.
 const MOST: usize = 1 << 30;
-
-/// A library call's number and first answer cell as a count.
-fn count(said: u32, answer: [u64; 1]) -> Result<usize, Refusal> {
-    Refusal::check(said)?;
-    Ok(usize::try_from(answer[0]).expect("the library counts bytes or cells in memory"))
-}
 
 /// How many bytes a list's file has.
 ///
@@ -43,8 +37,7 @@ fn count(said: u32, answer: [u64; 1]) -> Result<usize, Refusal> {
 ///
 /// [`Refusal::ListNotRising`] where the positions do not rise strictly, or one is 2^30 or more.
 pub fn encoded_size(list: &[u32]) -> Result<usize, Refusal> {
-    let mut answer = [0];
-    count(ffi::list_size(list, &mut answer), answer)
+    call::answer(|cell| ffi::list_size(list, cell))
 }
 
 /// Writes a list's file to the front of the target and gives its byte count. The bytes after it stay as they were.
@@ -59,8 +52,7 @@ pub fn encoded_size(list: &[u32]) -> Result<usize, Refusal> {
 ///
 /// [`Refusal::ListNotRising`] as in [`encoded_size`], [`Refusal::TargetTooShort`] for fewer bytes than the file has.
 pub fn encode_into(list: &[u32], target: &mut [u8]) -> Result<usize, Refusal> {
-    let mut answer = [0];
-    count(ffi::list_write(list, target, &mut answer), answer)
+    call::answer(|cell| ffi::list_write(list, target, cell))
 }
 
 /// A list's file.
@@ -96,8 +88,7 @@ pub fn encode(list: &[u32]) -> Result<Vec<u8>, Refusal> {
 /// [are left over](Refusal::BytesLeftOver); and [`Refusal::CellsMissing`] right after the count where it is above the
 /// number of cells.
 pub fn decode_into(file: &[u8], cells: &mut [u32]) -> Result<usize, Refusal> {
-    let mut answer = [0];
-    count(ffi::list_read(file, cells, &mut answer), answer)
+    call::answer(|cell| ffi::list_read(file, cells, cell))
 }
 
 /// A file's list.

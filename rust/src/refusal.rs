@@ -95,15 +95,6 @@ impl Refusal {
     pub fn from_number(number: u32) -> Option<Refusal> {
         Refusal::ALL.iter().copied().find(|refusal| refusal.number() == number)
     }
-
-    /// What a call's number says: 0 is an accepted call.
-    pub(crate) fn check(number: u32) -> Result<(), Refusal> {
-        match number {
-            0 => Ok(()),
-            // The crate hands over the four methods and enough answer cells only.
-            _ => Err(Refusal::from_number(number).expect("the library refuses with a number of the rules")),
-        }
-    }
 }
 
 impl fmt::Display for Refusal {

@@ -1,9 +1,9 @@
 //! The search call: a bounded piece of work that goes on from a mark.
-use crate::ffi;
 use crate::method::Method;
 use crate::pattern::Pattern;
 use crate::refusal::Refusal;
 use crate::text::Text;
+use crate::{call, ffi};
 use std::fmt;
 
 /// How many 64-bit cells a call's tables need.
@@ -148,7 +148,7 @@ pub fn search(
     scratch: &mut Scratch,
 ) -> Result<Answer, Refusal> {
     let mut answer = [0; 4];
-    Refusal::check(ffi::search(
+    call::check(ffi::search(
         text.bytes(),
         text.bit_count(),
         pattern.bytes(),

@@ -1,7 +1,7 @@
 //! The text: packed bits to search in.
-use crate::ffi;
-use crate::packed::Packed;
+use crate::packed::{self, Packed};
 use crate::refusal::Refusal;
+use crate::{call, ffi};
 use std::fmt;
 
 /// The bits to search in: borrowed bytes and a bit count of at most 2^30.
@@ -43,11 +43,9 @@ impl<'a> Text<'a> {
     ///
     /// [`Refusal::TextTooLong`] above 2^30 bits, [`Refusal::TextBytesMissing`] for fewer bytes than the bits take.
     pub fn new(bytes: &'a [u8], bit_count: u64) -> Result<Text<'a>, Refusal> {
-        // The library judges: of its call for eight bits, refusals 1 and 2 speak of the text, 6 of the place.
-        match Refusal::check(ffi::eight_bits(bytes, bit_count, 0, &mut [0])) {
-            Ok(()) | Err(Refusal::BeyondEnd) => Ok(Text(Packed { bytes, bit_count })),
-            Err(refusal) => Err(refusal),
-        }
+        // Of the call for eight bits, refusals 1 and 2 speak of the text, and 6 of the place.
+        let said = call::check(ffi::eight_bits(bytes, bit_count, 0, &mut [0]));
+        Packed::judged(bytes, bit_count, said, Refusal::BeyondEnd).map(Text)
     }
 
     /// All bits of `bytes`, eight for each.
@@ -60,7 +58,7 @@ impl<'a> Text<'a> {
     ///
     /// [`Refusal::TextTooLong`] above 2^27 bytes.
     pub fn from_bytes(bytes: &'a [u8]) -> Result<Text<'a>, Refusal> {
-        Text::new(bytes, (bytes.len() as u64).saturating_mul(8))
+        Text::new(bytes, packed::bits_in(bytes))
     }
 
     /// The bytes that were lent, all of them.
@@ -97,9 +95,7 @@ impl<'a> Text<'a> {
     ///
     /// [`Refusal::BeyondEnd`] where fewer than eight bits follow.
     pub fn eight_bits(&self, place: u32) -> Result<u8, Refusal> {
-        let mut answer = [0];
-        Refusal::check(ffi::eight_bits(self.bytes(), self.bit_count(), place, &mut answer))?;
-        Ok(u8::try_from(answer[0]).expect("the library answers with a byte"))
+        call::answer(|cell| ffi::eight_bits(self.bytes(), self.bit_count(), place, cell))
     }
 }
 

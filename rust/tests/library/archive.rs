@@ -32,7 +32,7 @@ fn judged(archive: Option<&[u8]>) -> Result<(), String> {
     if let Some(bytes) = archive {
         fs::write(dir.join("libmitongory.a"), bytes).unwrap();
     }
-    let said = script::judge(&dir, "x86_64", "0_2");
+    let said = script::judge(&dir, "x86_64-linux", "0_2");
     fs::remove_dir_all(&dir).unwrap();
     said.map_err(|why| why.replace(dir.to_str().unwrap(), "DIR"))
 }
@@ -50,10 +50,14 @@ fn archives_that_the_build_refuses() {
     let two = ["mitongory_version_1_0", "mitongory_version_0_1", "mitongory_version_1_0"];
     assert_eq!(judged(Some(&symbols(&two))), exports("mitongory_version_0_1, mitongory_version_1_0"));
     assert_eq!(judged(Some(b"")), exports("no version"));
+    let section = [".text.mitongory_version_0_2", "mitongory_version_0_1"];
+    assert_eq!(judged(Some(&symbols(&section))), exports("mitongory_version_0_1"));
 
     let missing = judged(None).unwrap_err();
     assert!(missing.starts_with("DIR/libmitongory.a cannot be read"), "{missing}");
     assert!(missing.ends_with("run `make lib` first, or name its folder in MITONGORY_LIB_DIR"), "{missing}");
-    let other = script::judge(Path::new("nowhere"), "aarch64", "0_2");
-    assert_eq!(other, Err(String::from("the archive is x86-64 code, and the target is aarch64")));
+    for target in ["aarch64-linux", "x86_64-macos"] {
+        let said = script::judge(Path::new("nowhere"), target, "0_2");
+        assert_eq!(said, Err(format!("the archive is code for x86_64-linux, and the target is {target}")));
+    }
 }
