@@ -82,10 +82,6 @@ mod raw {
 static VERSION: unsafe extern "C" fn() -> u32 = raw::mitongory_version_0_2;
 
 /// The archive's version, as major * 10,000 + minor * 100 + patch.
-///
-/// ```
-/// assert_eq!(mitongory::ffi::version(), 200);
-/// ```
 #[must_use]
 pub fn version() -> u32 {
     // SAFETY: the function takes nothing and returns a number.
@@ -94,12 +90,6 @@ pub fn version() -> u32 {
 
 /// A search call. Method 0 is plain, 1 hash, 2 skip, 3 wide; the answer's four cells are steps, occurrences, mark and
 /// how the call stopped (0 done, 1 full, 2 spent).
-///
-/// ```
-/// let (mut list, mut scratch, mut answer) = ([0; 4], [0; 4224], [0; 4]);
-/// let said = mitongory::ffi::search(&[0xf8], 5, &[0xe0], 3, 0, 0, u32::MAX, &mut list, &mut scratch, &mut answer);
-/// assert_eq!((said, answer, list), (0, [3, 3, 3, 0], [0, 1, 2, 0]));
-/// ```
 pub fn search(
     text: &[u8],
     n: u64,
@@ -135,47 +125,24 @@ pub fn search(
 }
 
 /// H of a value for a pattern, in the answer's first cell.
-///
-/// ```
-/// let mut answer = [0];
-/// let said = mitongory::ffi::hash_value(&[0xcb, 0x2c, 0xb0], 21, 0b0110_0101, &mut answer);
-/// assert_eq!((said, answer), (0, [2]));
-/// ```
 pub fn hash_value(pattern: &[u8], m: u64, value: u8, answer: &mut [u64]) -> u32 {
     // SAFETY: each pointer and length come from one live slice, and the `&mut` slice overlaps nothing.
     unsafe { raw::mitongory_hash_value(pattern.as_ptr(), pattern.len(), m, value, answer.as_mut_ptr(), answer.len()) }
 }
 
 /// Eight bits from a bit number on, in the answer's first cell.
-///
-/// ```
-/// let mut answer = [0];
-/// let said = mitongory::ffi::eight_bits(&[0xab, 0xcd], 16, 4, &mut answer);
-/// assert_eq!((said, answer), (0, [0xbc]));
-/// ```
 pub fn eight_bits(bytes: &[u8], n: u64, place: u32, answer: &mut [u64]) -> u32 {
     // SAFETY: each pointer and length come from one live slice, and the `&mut` slice overlaps nothing.
     unsafe { raw::mitongory_eight_bits(bytes.as_ptr(), bytes.len(), n, place, answer.as_mut_ptr(), answer.len()) }
 }
 
 /// The byte count of a list's file, in the answer's first cell.
-///
-/// ```
-/// let mut answer = [0];
-/// assert_eq!((mitongory::ffi::list_size(&[300], &mut answer), answer), (0, [3]));
-/// ```
 pub fn list_size(list: &[u32], answer: &mut [u64]) -> u32 {
     // SAFETY: each pointer and length come from one live slice, and the `&mut` slice overlaps nothing.
     unsafe { raw::mitongory_list_size(list.as_ptr(), list.len(), answer.as_mut_ptr(), answer.len()) }
 }
 
 /// Writes a list's file to the front of the target; the byte count is in the answer's first cell.
-///
-/// ```
-/// let (mut target, mut answer) = ([0; 3], [0]);
-/// let said = mitongory::ffi::list_write(&[300], &mut target, &mut answer);
-/// assert_eq!((said, target, answer), (0, [0x01, 0xac, 0x02], [3]));
-/// ```
 pub fn list_write(list: &[u32], target: &mut [u8], answer: &mut [u64]) -> u32 {
     // SAFETY: each pointer and length come from one live slice, and the `&mut` slices overlap nothing.
     unsafe {
@@ -191,12 +158,6 @@ pub fn list_write(list: &[u32], target: &mut [u8], answer: &mut [u64]) -> u32 {
 }
 
 /// Reads a file's list to the front of the cells; the list's count is in the answer's first cell.
-///
-/// ```
-/// let (mut cells, mut answer) = ([0; 3], [0]);
-/// let said = mitongory::ffi::list_read(&[0x01, 0xac, 0x02], &mut cells, &mut answer);
-/// assert_eq!((said, cells, answer), (0, [300, 0, 0], [1]));
-/// ```
 pub fn list_read(file: &[u8], cells: &mut [u32], answer: &mut [u64]) -> u32 {
     // SAFETY: each pointer and length come from one live slice, and the `&mut` slices overlap nothing.
     unsafe {
