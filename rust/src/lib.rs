@@ -1,7 +1,7 @@
 //! Exact search for a pattern of bits in packed bits, over a proved library.
 //!
-//! The crate lists every place where a *pattern* of 1 to 2,048 bits stands in a *text* of up to 2^30 bits. A place is a
-//! bit number: a pattern may stand at any bit, not only where a byte begins, and its occurrences may overlap. There are
+//! The crate lists every place where a *pattern* of 1 to 2,048 bits occurs in a *text* of up to 2^30 bits. A place is a
+//! bit number: a pattern may occur from any bit on, not only where a byte begins, and occurrences may overlap. There are
 //! four methods of searching, which find the same occurrences, and a file format for lists of positions.
 //!
 //! The work is done by a library in which every function is proved to meet its contract. It is linked as a static
@@ -127,7 +127,7 @@
 //! For every input, refusals included, each call of the library answers as its short definition says and leaves every
 //! buffer as that says; and the calls of a search, joined, list every occurrence once (see [`search`]). The proofs end
 //! at the archive. This crate's Rust code, its declarations of the calls, and the compiler and linker are not proved:
-//! the crate is tested against a naive search and a naive codec. `unsafe` stands in one module, around the calls.
+//! the crate is tested against a naive search and a naive codec. One module has `unsafe` code, around the calls.
 
 mod bits;
 mod call;

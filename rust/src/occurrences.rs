@@ -11,10 +11,10 @@ use std::iter::FusedIterator;
 /// occurrences that is little.
 const CELLS: usize = 1024;
 
-/// An iterator over all occurrences of a pattern, rising: the places at which it stands in a text.
+/// An iterator over all occurrences of a pattern, rising: the places at which it occurs in a text.
 ///
 /// It calls [`search`] with a list of its own and goes on from the mark. That no occurrence is missing and none comes
-/// twice is the theorem named there, which speaks of every such list of calls.
+/// twice follows from the theorem named there, which speaks of every such list of calls, whatever their budgets.
 ///
 /// ```
 /// use mitongory::{Bits, Method, Occurrences};

@@ -104,13 +104,14 @@ impl fmt::Debug for Scratch {
 /// other cells of the list stay as they were.
 ///
 /// The call stops early where an occurrence finds no free cell. It allocates nothing and keeps nothing: the mark in the
-/// answer is all that the next call needs. Each call makes the method's tables anew, which takes two microseconds or
-/// less, so budgets of ten thousand steps and more lose little by it.
+/// answer is all that the next call needs. Each call makes the method's tables anew, which took two microseconds or
+/// less where it was measured, so budgets of ten thousand steps and more lose little by it.
 ///
-/// It is proved of every list of such calls on one text and one pattern, of which the first begins at [`Mark::START`]
-/// and each goes on from the mark before it, refused calls among them or not: the places that they wrote, joined, are all
-/// occurrences before the last mark, rising and each once, whatever the methods, budgets and lists are. This is the
-/// theorem `whole` (`crates/capi/proofs/CallList.antt`).
+/// A call writes all occurrences from its mark on that lie before the mark that it leaves. It is proved of every list of
+/// such calls on one text and one pattern, of which the first begins at [`Mark::START`] and each goes on from the mark
+/// before it, refused calls included: the places that they wrote, joined, are all occurrences before the last mark,
+/// rising and each once, whatever the methods, budgets and lists are. This is the theorem `whole`
+/// (`crates/capi/proofs/CallList.antt`).
 ///
 /// ```
 /// use mitongory::{search, Bits, Mark, Method, Scratch, Stop};
