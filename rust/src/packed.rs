@@ -13,6 +13,32 @@ pub(crate) struct Packed<'a> {
     pub(crate) bit_count: u64,
 }
 
+/// What a text and a pattern show of their bits.
+macro_rules! shows_its_bits {
+    ($name:ident) => {
+        impl<'a> $name<'a> {
+            /// The bytes that were lent, all of them: also those after the last bit.
+            #[must_use]
+            pub const fn bytes(&self) -> &'a [u8] {
+                self.0.bytes
+            }
+
+            /// How many bits there are.
+            #[must_use]
+            pub const fn bit_count(&self) -> u64 {
+                self.0.bit_count
+            }
+        }
+
+        impl std::fmt::Debug for $name<'_> {
+            fn fmt(&self, f: &mut std::fmt::Formatter<'_>) -> std::fmt::Result {
+                self.0.debug(stringify!($name), f)
+            }
+        }
+    };
+}
+pub(crate) use shows_its_bits;
+
 /// How many bits there are in whole bytes.
 pub(crate) const fn bits_in(bytes: &[u8]) -> u64 {
     (bytes.len() as u64).saturating_mul(8)

@@ -1,8 +1,7 @@
 //! The pattern: packed bits to search for.
-use crate::packed::{self, Packed};
+use crate::packed::{self, shows_its_bits, Packed};
 use crate::refusal::Refusal;
 use crate::{call, ffi};
-use std::fmt;
 
 /// The bits to search for: borrowed bytes and a bit count of 1 to 2,048, packed as in a [`Text`](crate::Text).
 ///
@@ -57,26 +56,6 @@ impl<'a> Pattern<'a> {
         Pattern::new(bytes, packed::bits_in(bytes))
     }
 
-    /// The bytes that were lent, all of them.
-    ///
-    /// ```
-    /// assert_eq!(mitongory::Pattern::new(&[1, 2], 3).unwrap().bytes(), [1, 2]);
-    /// ```
-    #[must_use]
-    pub const fn bytes(&self) -> &'a [u8] {
-        self.0.bytes
-    }
-
-    /// How many bits the pattern has.
-    ///
-    /// ```
-    /// assert_eq!(mitongory::Pattern::new(&[0xff], 8).unwrap().bit_count(), 8);
-    /// ```
-    #[must_use]
-    pub const fn bit_count(&self) -> u64 {
-        self.0.bit_count
-    }
-
     /// H of an eight-bit value, on which [`Method::Hash`](crate::Method::Hash) rests: how far a window that ends in the
     /// value may move on. It is the least move, from 0 to the pattern's bit count, after which the pattern's bits agree
     /// with those bits of the value that they then lie on.
@@ -95,8 +74,4 @@ impl<'a> Pattern<'a> {
     }
 }
 
-impl fmt::Debug for Pattern<'_> {
-    fn fmt(&self, f: &mut fmt::Formatter<'_>) -> fmt::Result {
-        self.0.debug("Pattern", f)
-    }
-}
+shows_its_bits!(Pattern);

@@ -1,8 +1,7 @@
 //! The text: packed bits to search in.
-use crate::packed::{self, Packed};
+use crate::packed::{self, shows_its_bits, Packed};
 use crate::refusal::Refusal;
 use crate::{call, ffi};
-use std::fmt;
 
 /// The bits to search in: borrowed bytes and a bit count of at most 2^30.
 ///
@@ -61,26 +60,6 @@ impl<'a> Text<'a> {
         Text::new(bytes, packed::bits_in(bytes))
     }
 
-    /// The bytes that were lent, all of them.
-    ///
-    /// ```
-    /// assert_eq!(mitongory::Text::new(&[1, 2], 3).unwrap().bytes(), [1, 2]);
-    /// ```
-    #[must_use]
-    pub const fn bytes(&self) -> &'a [u8] {
-        self.0.bytes
-    }
-
-    /// How many bits the text has.
-    ///
-    /// ```
-    /// assert_eq!(mitongory::Text::new(&[], 0).unwrap().bit_count(), 0);
-    /// ```
-    #[must_use]
-    pub const fn bit_count(&self) -> u64 {
-        self.0.bit_count
-    }
-
     /// The eight bits from bit `place` on, as a byte with that bit leftmost.
     ///
     /// ```
@@ -99,8 +78,4 @@ impl<'a> Text<'a> {
     }
 }
 
-impl fmt::Debug for Text<'_> {
-    fn fmt(&self, f: &mut fmt::Formatter<'_>) -> fmt::Result {
-        self.0.debug("Text", f)
-    }
-}
+shows_its_bits!(Text);
