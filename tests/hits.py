@@ -16,6 +16,8 @@ HERE = os.path.dirname(os.path.abspath(__file__))
 PROGRAM = os.path.join(os.path.dirname(HERE), "target", "bin", "hits")
 INPUTS = os.path.join(HERE, "hits")
 BUDGET = 2**32 - 1
+# A run takes some milliseconds; one that takes longer than this has failed.
+SECONDS = 20
 
 
 # ---- the four methods by their written rules, over strings of the characters 0 and 1
@@ -221,10 +223,17 @@ def stored():
 # ---- runs
 
 
+def outcome(out, status):
+    """What was written, and after it the exit status where that is not 0."""
+    return out if status == 0 else out + b"exit status %d" % status
+
+
 def run(data):
     """What is written to standard output, and then what is written to standard error: nothing."""
-    p = subprocess.run([PROGRAM], input=data, stdout=subprocess.PIPE, stderr=subprocess.PIPE, check=False)
-    return p.stdout + p.stderr
+    p = subprocess.run(
+        [PROGRAM], input=data, stdout=subprocess.PIPE, stderr=subprocess.PIPE, check=False, timeout=SECONDS
+    )
+    return outcome(p.stdout + p.stderr, p.returncode)
 
 
 def run_in_pieces(data, cuts):
@@ -240,9 +249,9 @@ def run_in_pieces(data, cuts):
         p.stdin.close()
     except BrokenPipeError:
         pass
-    out = p.stdout.read()
-    p.wait()
-    return out
+    p.stdin = None
+    out, _ = p.communicate(timeout=SECONDS)
+    return outcome(out, p.returncode)
 
 
 def run_unwritten(data, out, action):
@@ -254,6 +263,7 @@ def run_unwritten(data, out, action):
         stderr=subprocess.PIPE,
         preexec_fn=lambda: signal.signal(signal.SIGPIPE, action),
         check=False,
+        timeout=SECONDS,
     )
     return p.returncode, p.stderr
 

@@ -8,7 +8,7 @@ use Rattle.bits.specs.Packed.{Packed, bytesFor, bitsAt}
 use Rattle.bits.specs.declared.eight.Eight.{Eight}
 use Rattle.bits.specs.declared.eight.Eight.the-variants.{Bits, Refused}
 use Rattle.bits.specs.declared.eight.Refusal.{Refusal}
-use Rattle.bits.specs.declared.eight.Refusal.the-variants.{TooLong, FewBytes, PastEnd}
+use Rattle.bits.specs.declared.eight.Refusal.the-variants.{TextTooLong, TextBytesMissing, BeyondEnd}
 
 -- what the paper says of a call: a byte, or the number of a refusal
 pub data Verdict : Type 0 where
@@ -17,9 +17,9 @@ pub data Verdict : Type 0 where
 
 -- the paper's number of each refusal
 abbrev pub numberOf : Refusal → ℕ
-numberOf TooLong = 1
-numberOf FewBytes = 2
-numberOf PastEnd = 6
+numberOf TextTooLong = 1
+numberOf TextBytesMissing = 2
+numberOf BeyondEnd = 6
 
 -- the paper's value or number of each answer
 abbrev pub verdictOf : Eight → Verdict

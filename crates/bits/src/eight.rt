@@ -2,16 +2,29 @@
 use crate::Place;
 use crate::load;
 ghost use mathlib.Core.Path.{_≡_};
-ghost use Rattle.bits.specs.Eight.{verdictOf, eightAt};
+ghost use Rattle.bits.specs.Eight.{numberOf, verdictOf, eightAt};
 
-// Why eight bits are refused. `numberOf` of specs/Eight.antt has the number of each.
+// Why eight bits are refused.
 pub enum Refusal {
     // The bit count is above 2^30.
-    TooLong,
+    TextTooLong,
     // There are fewer bytes than the bit count takes.
-    FewBytes,
+    TextBytesMissing,
     // The eight bits run past the last bit.
-    PastEnd,
+    BeyondEnd,
+}
+
+impl Refusal {
+    // Document 01's number of the refusal.
+    pub fn number(self) -> u32
+        ensures { λ r. ⌜ r ≡ numberOf self ⌝ }
+    {
+        match self {
+            Refusal::TextTooLong => 1,
+            Refusal::TextBytesMissing => 2,
+            Refusal::BeyondEnd => 6,
+        }
+    }
 }
 
 pub enum Eight {
@@ -24,14 +37,14 @@ pub fn eight_bits(bytes: &[u8], n: u64, p: Place) -> Eight
     ensures { λ r. ⌜ verdictOf r ≡ eightAt (record { bytes = now (bytes .entry); count = n }) (p .0) ⌝ }
 {
     if 1073741824 < n {
-        return Eight::Refused(Refusal::TooLong);
+        return Eight::Refused(Refusal::TextTooLong);
     }
     if (bytes.len() as u64) < crate::bytes_for(n) {
-        return Eight::Refused(Refusal::FewBytes);
+        return Eight::Refused(Refusal::TextBytesMissing);
     }
     let at = p.0;
     if n < at as u64 + 8 {
-        return Eight::Refused(Refusal::PastEnd);
+        return Eight::Refused(Refusal::BeyondEnd);
     }
     Eight::Bits(load::byte_at(bytes, p))
 }

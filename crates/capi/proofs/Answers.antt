@@ -58,7 +58,7 @@ as-searched q x r list scratch answer e h s =
                 scratch-length = kept .0;
                 scratch-rest = kept .1;
               };
-          tells = rw (p .answer .steps, p .answer .hits, p .answer .mark, p .answer .ending) (rw v at (s .tells));
+          tells = rw (p .answer .steps, p .answer .occurrences, p .answer .mark, p .answer .ending) (rw v at (s .tells));
         }
     go (Refused y) l u p =
         let v = searched-by q x e h ∙ p .verdict-is in

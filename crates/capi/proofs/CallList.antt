@@ -18,7 +18,7 @@ use Rattle.rules.specs.declared.Method.{Method}
 use Rattle.search.specs.declared.Outcome.{Outcome}
 use Rattle.search.specs.declared.Outcome.the-variants.{Accepted, Refused}
 use Rattle.search.specs.declared.Refusal.{Refusal}
-use Rattle.search.specs.declared.Refusal.the-variants.{TextTooLong, TextBytesMissing, PatternLength, PatternBytesMissing, PatternTooShort, MarkBeyondPlaces, ScratchTooShort}
+use Rattle.search.specs.declared.Refusal.the-variants.{TextTooLong, TextBytesMissing, PatternLength, PatternBytesMissing, PatternTooShort, BeyondEnd, ScratchTooShort}
 use Rattle.search.specs.Verdict.{refused, verdict, numberOfRefusal, Searched}
 use Rattle.search.specs.Calls as library
 use Rattle.search.proofs.Calls as theorem
@@ -41,7 +41,7 @@ not-zero TextBytesMissing = refl
 not-zero PatternLength = refl
 not-zero PatternBytesMissing = refl
 not-zero PatternTooShort = refl
-not-zero MarkBeyondPlaces = refl
+not-zero BeyondEnd = refl
 not-zero ScratchTooShort = refl
 
 module _ (t : Packed) (w : Pattern) (s : ℕ) (c : Made) where

@@ -101,7 +101,7 @@ module _ (q : Call) where
   search-tells x (Accepted a) r list scratch answer e h s t =
       let v = searched-by x e h ∙ s .verdict-is in
       record {
-        tells = rw v (rw (s .answer .steps, s .answer .hits, s .answer .mark, s .answer .ending) at t);
+        tells = rw v (rw (s .answer .steps, s .answer .occurrences, s .answer .mark, s .answer .ending) at t);
         list-is = rw v (s .list-is);
         scratch-is = rw v (s .scratch-length, s .scratch-rest);
       }

@@ -30,7 +30,7 @@ callOf t w s q =
     record {
       text = t .bytes;
       n = t .count;
-      word = w .bytes;
+      pattern = w .bytes;
       m = w .count;
       method = q .method;
       mark = s;

@@ -17,5 +17,5 @@ namedBy code.Unknown = scan.unknown
 
 -- what is told of an outcome
 abbrev pub outcomeTells : Outcome → Told
-outcomeTells (Accepted a) = gives (a .steps ∷ a .hits ∷ a .mark .at .0 ∷ stopNumber (endingOf (a .stop)) ∷ [])
+outcomeTells (Accepted a) = gives (a .steps ∷ a .occurrences ∷ a .mark .at .0 ∷ stopNumber (endingOf (a .stop)) ∷ [])
 outcomeTells (Refused r) = refuses (numberOfRefusal r)

@@ -36,7 +36,7 @@ stopNumber spent = 2
 pub record Call : Type 0 where
   pub text : List ℕ
   pub n : ℕ
-  pub word : List ℕ
+  pub pattern : List ℕ
   pub m : ℕ
   pub method : ℕ
   pub mark : ℕ
@@ -50,7 +50,7 @@ abbrev pub requestOf : Method → Call → Request
 requestOf x q =
     record {
       text = record { bytes = q .text; count = q .n };
-      pattern = record { bytes = q .word; count = q .m };
+      pattern = record { bytes = q .pattern; count = q .m };
       method = x;
       mark = q .mark;
       budget = q .budget;
@@ -97,5 +97,5 @@ hashTells (accepted d) = gives (d ∷ [])
 
 -- What `mitongory_hash_value` tells: 101 first, then refusals 3 to 5, or H(B).
 unfoldable pub hashTold : List ℕ → ℕ → ℕ → List ℕ → Told
-hashTold word m value answer =
-    unlessCells 1 answer (refuses fewAnswerCells) (hashTells (hashVerdict (record { bytes = word; count = m }) value))
+hashTold pattern m value answer =
+    unlessCells 1 answer (refuses fewAnswerCells) (hashTells (hashVerdict (record { bytes = pattern; count = m }) value))

@@ -3,21 +3,8 @@ use crate::cells;
 use bits::Place;
 use bits::eight;
 use bits::eight::Eight;
-use bits::eight::Refusal;
-ghost use mathlib.Core.Path.{_≡_};
-ghost use Rattle.bits.specs.Eight.{numberOf};
 ghost use Rattle.capi.specs.Told.{Tells};
 ghost use Rattle.capi.specs.EightBits.{eightTold};
-
-fn number_of(why: Refusal) -> u32
-    ensures { λ r. ⌜ r ≡ numberOf why ⌝ }
-{
-    match why {
-        Refusal::TooLong => 1,
-        Refusal::FewBytes => 2,
-        Refusal::PastEnd => 6,
-    }
-}
 
 // The eight bits from a bit number on, of the first n bits, as a byte with the first bit leftmost.
 #[no_mangle]
@@ -29,7 +16,7 @@ pub extern "C" fn mitongory_eight_bits(bytes: &[u8], n: u64, place: u32, answer:
     }
     let found = eight::eight_bits(bytes, n, Place(place));
     match found {
-        Eight::Refused(why) => number_of(why),
+        Eight::Refused(why) => why.number(),
         Eight::Bits(b) => cells::one(answer, b as u64),
     }
 }

@@ -2,34 +2,9 @@
 use crate::cells;
 use positions::ByteCount;
 use positions::ReadAnswer;
-use positions::ReadRefusal;
-use positions::WriteRefusal;
 use positions::Written;
-ghost use mathlib.Core.Path.{_≡_};
-ghost use Rattle.positions.specs.Promise.{writeRefusal, readRefusal};
 ghost use Rattle.capi.specs.Told.{Tells};
 ghost use Rattle.capi.specs.ListFile.{sizeTold, ListWritten, ListRead};
-
-fn write_number(why: WriteRefusal) -> u32
-    ensures { λ r. ⌜ r ≡ writeRefusal why ⌝ }
-{
-    match why {
-        WriteRefusal::NotRising => 8,
-        WriteRefusal::TargetShort => 9,
-    }
-}
-
-fn read_number(why: ReadRefusal) -> u32
-    ensures { λ r. ⌜ r ≡ readRefusal why ⌝ }
-{
-    match why {
-        ReadRefusal::EndsEarly => 10,
-        ReadRefusal::NotFewest => 11,
-        ReadRefusal::TooLarge => 12,
-        ReadRefusal::LeftOver => 13,
-        ReadRefusal::FewCells => 14,
-    }
-}
 
 // How many bytes the file of a list has.
 #[no_mangle]
@@ -41,7 +16,7 @@ pub extern "C" fn mitongory_list_size(list: &[u32], answer: &mut [u64]) -> u32
     }
     let needed = positions::size(list);
     match needed {
-        ByteCount::Refused(why) => write_number(why),
+        ByteCount::Refused(why) => why.number(),
         ByteCount::Bytes(n) => cells::one(answer, n as u64),
     }
 }
@@ -56,7 +31,7 @@ pub extern "C" fn mitongory_list_write(list: &[u32], target: &mut [u8], answer: 
     }
     let written = positions::write(list, target);
     match written {
-        Written::Refused(why) => write_number(why),
+        Written::Refused(why) => why.number(),
         Written::Bytes(n) => cells::one(answer, n as u64),
     }
 }
@@ -71,7 +46,7 @@ pub extern "C" fn mitongory_list_read(file: &[u8], cells: &mut [u32], answer: &m
     }
     let read = positions::read(file, cells);
     match read {
-        ReadAnswer::Refused(why) => read_number(why),
+        ReadAnswer::Refused(why) => why.number(),
         ReadAnswer::Count(n) => cells::one(answer, n as u64),
     }
 }

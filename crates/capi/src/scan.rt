@@ -4,14 +4,13 @@ use bits::Place;
 use search::Mark;
 use search::Method;
 use search::Outcome;
-use search::Refusal;
 use search::Stop;
 use search::hash_value;
 use search::hash_value::HashAnswer;
 ghost use mathlib.Core.Path.{_≡_};
 ghost use Prim.Native.Nat.{_≤_};
 ghost use lib.ListN.{length};
-ghost use Rattle.search.specs.Verdict.{numberOfRefusal, endingOf};
+ghost use Rattle.search.specs.Verdict.{endingOf};
 ghost use Rattle.capi.specs.Told.{Tells};
 ghost use Rattle.capi.specs.Scan.{methodNamed, stopNumber, Searches, hashTold};
 ghost use Rattle.capi.specs.Inner.{namedBy, outcomeTells};
@@ -44,33 +43,19 @@ fn stop_of(stop: Stop) -> u64
     }
 }
 
-fn number_of(why: Refusal) -> u32
-    ensures { λ r. ⌜ r ≡ numberOfRefusal why ⌝ }
-{
-    match why {
-        Refusal::TextTooLong => 1,
-        Refusal::TextBytesMissing => 2,
-        Refusal::PatternLength => 3,
-        Refusal::PatternBytesMissing => 4,
-        Refusal::PatternTooShort => 5,
-        Refusal::MarkBeyondPlaces => 6,
-        Refusal::ScratchTooShort => 7,
-    }
-}
-
 // The number of an outcome; an accepted one's steps, hits, mark and stop go to the first four cells.
 fn tell(outcome: Outcome, answer: &mut [u64]) -> u32
     requires { ⌜ 4 ≤ length (now answer) ⌝ }
     ensures { λ r. ⌜ Tells (outcomeTells outcome) (now (answer .entry)) r (now (answer .exit)) ⌝ }
 {
     match outcome {
-        Outcome::Refused(why) => number_of(why),
+        Outcome::Refused(why) => why.number(),
         Outcome::Accepted(a) => {
             let mark = a.mark;
             let at = mark.at;
             let stop = a.stop;
             answer[0] = a.steps as u64;
-            answer[1] = a.hits as u64;
+            answer[1] = a.occurrences as u64;
             answer[2] = at.0 as u64;
             answer[3] = stop_of(stop);
             0
@@ -83,7 +68,7 @@ fn tell(outcome: Outcome, answer: &mut [u64]) -> u32
 pub extern "C" fn mitongory_search(
     text: &[u8],
     n: u64,
-    word: &[u8],
+    pattern: &[u8],
     m: u64,
     method: u32,
     mark: u32,
@@ -92,7 +77,7 @@ pub extern "C" fn mitongory_search(
     scratch: &mut [u64],
     answer: &mut [u64],
 ) -> u32
-    ensures { λ r. ⌜ Searches (record { text = now (text .entry); n = n; word = now (word .entry); m = m; method = method; mark = mark; budget = budget; list = now (list .entry); scratch = now (scratch .entry); answer = now (answer .entry) }) r (now (list .exit)) (now (scratch .exit)) (now (answer .exit)) ⌝ }
+    ensures { λ r. ⌜ Searches (record { text = now (text .entry); n = n; pattern = now (pattern .entry); m = m; method = method; mark = mark; budget = budget; list = now (list .entry); scratch = now (scratch .entry); answer = now (answer .entry) }) r (now (list .exit)) (now (scratch .exit)) (now (answer .exit)) ⌝ }
 {
     let named = method_of(method);
     let Named::Known(known) = named else {
@@ -102,21 +87,21 @@ pub extern "C" fn mitongory_search(
         return 101;
     }
     let from = Mark { at: Place(mark) };
-    let outcome = from.search(text, n, word, m, known, budget, list, scratch);
+    let outcome = from.search(text, n, pattern, m, known, budget, list, scratch);
     tell(outcome, answer)
 }
 
-// H(B) of the first m bits of the word.
+// H(B) of the first m bits of the pattern.
 #[no_mangle]
-pub extern "C" fn mitongory_hash_value(word: &[u8], m: u64, value: u8, answer: &mut [u64]) -> u32
-    ensures { λ r. ⌜ Tells (hashTold (now (word .entry)) m value (now (answer .entry))) (now (answer .entry)) r (now (answer .exit)) ⌝ }
+pub extern "C" fn mitongory_hash_value(pattern: &[u8], m: u64, value: u8, answer: &mut [u64]) -> u32
+    ensures { λ r. ⌜ Tells (hashTold (now (pattern .entry)) m value (now (answer .entry))) (now (answer .entry)) r (now (answer .exit)) ⌝ }
 {
     if answer.len() < 1 {
         return 101;
     }
-    let hash = hash_value::hash_value(word, m, value);
+    let hash = hash_value::hash_value(pattern, m, value);
     match hash {
-        HashAnswer::Refused(why) => number_of(why),
+        HashAnswer::Refused(why) => why.number(),
         HashAnswer::Value(d) => cells::one(answer, d as u64),
     }
 }

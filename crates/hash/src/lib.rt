@@ -32,12 +32,12 @@ fn double(cells: &mut [u64], size: usize)
 
 // The moves from m − 7 up, at which the pattern's first bits are the value's last. Before turn k the first 2^(k − 1) cells
 // hold the moves above m − k, and a value has that of the cell that its last k − 1 bits number.
-fn prepare_ends(word: &[u8], m: u32, cells: &mut [u64])
-    requires { ⌜ GoodPattern Method.Hash (patternOf (now word) m) ⌝ }
+fn prepare_ends(pattern: &[u8], m: u32, cells: &mut [u64])
+    requires { ⌜ GoodPattern Method.Hash (patternOf (now pattern) m) ⌝ }
     requires { ⌜ 256 ≤ length (now cells) ⌝ }
-    ensures { λ _. ⌜ Entered (patternOf (now (word .entry)) m) (now (cells .entry)) (now (cells .exit)) (m - 8) ⌝ }
+    ensures { λ _. ⌜ Entered (patternOf (now (pattern .entry)) m) (now (cells .entry)) (now (cells .exit)) (m - 8) ⌝ }
 {
-    let first = load::byte_at(word, Place(0));
+    let first = load::byte_at(pattern, Place(0));
     cells[0] = m as u64;
     let mut size = 1usize;
     let mut k = 1u32;
@@ -51,12 +51,12 @@ fn prepare_ends(word: &[u8], m: u32, cells: &mut [u64])
 }
 
 // The moves d, d − 1, .. of k values that the pattern shows whole, one after the other in one load.
-fn enter(word: &[u8], m: u32, d: u32, k: u32, cells: &mut [u64])
+fn enter(pattern: &[u8], m: u32, d: u32, k: u32, cells: &mut [u64])
     requires { ⌜ (d + 8 ≤ m) × (k ≤ d) × (k ≤ 57) × (256 ≤ length (now cells)) ⌝ }
-    requires { ⌜ Entered (patternOf (now word) m) (now cells) (now cells) d ⌝ }
-    ensures { λ _. ⌜ Entered (patternOf (now (word .entry)) m) (now (cells .entry)) (now (cells .exit)) (d - k) ⌝ }
+    requires { ⌜ Entered (patternOf (now pattern) m) (now cells) (now cells) d ⌝ }
+    ensures { λ _. ⌜ Entered (patternOf (now (pattern .entry)) m) (now (cells .entry)) (now (cells .exit)) (d - k) ⌝ }
 {
-    let mut x = load::word_at(word, Place(m - 8 - d));
+    let mut x = load::word_at(pattern, Place(m - 8 - d));
     let mut r = 0u32;
     while r < k {
         cells[(x >> 56) as usize] = (d - r) as u64;
@@ -66,25 +66,25 @@ fn enter(word: &[u8], m: u32, d: u32, k: u32, cells: &mut [u64])
 }
 
 // All moves, the greatest first: the least one of a value is entered last.
-pub fn prepare(word: &[u8], m: u32, cells: &mut [u64])
-    requires { ⌜ GoodPattern Method.Hash (patternOf (now word) m) ⌝ }
+pub fn prepare(pattern: &[u8], m: u32, cells: &mut [u64])
+    requires { ⌜ GoodPattern Method.Hash (patternOf (now pattern) m) ⌝ }
     requires { ⌜ cellsFor Method.Hash m ≤ length (now cells) ⌝ }
-    ensures { λ _. ⌜ Prepared Method.Hash (patternOf (now (word .entry)) m) (now (cells .entry)) (now (cells .exit)) ⌝ }
+    ensures { λ _. ⌜ Prepared Method.Hash (patternOf (now (pattern .entry)) m) (now (cells .entry)) (now (cells .exit)) ⌝ }
 {
-    prepare_ends(word, m, cells);
+    prepare_ends(pattern, m, cells);
     let mut d = m - 8;
     while 57 < d {
-        enter(word, m, d, 57, cells);
+        enter(pattern, m, d, 57, cells);
         d -= 57;
     }
-    enter(word, m, d, d, cells);
+    enter(pattern, m, d, d, cells);
 }
 
 // The next mark after s, cut at the number of places.
-fn next_mark(text: &[u8], n: u32, word: &[u8], m: u32, cells: &[u64], s: Place) -> u32
-    requires { ⌜ Ready Method.Hash (textOf (now text) n) (patternOf (now word) m) (now cells) ⌝ }
-    requires { ⌜ s .0 < places (textOf (now text) n) (patternOf (now word) m) ⌝ }
-    ensures { λ r. ⌜ r ≡ next Method.Hash (textOf (now (text .entry)) n) (patternOf (now (word .entry)) m) (s .0) ⌝ }
+fn next_mark(text: &[u8], n: u32, pattern: &[u8], m: u32, cells: &[u64], s: Place) -> u32
+    requires { ⌜ Ready Method.Hash (textOf (now text) n) (patternOf (now pattern) m) (now cells) ⌝ }
+    requires { ⌜ s .0 < places (textOf (now text) n) (patternOf (now pattern) m) ⌝ }
+    ensures { λ r. ⌜ r ≡ next Method.Hash (textOf (now (text .entry)) n) (patternOf (now (pattern .entry)) m) (s .0) ⌝ }
 {
     let at = s.0;
     let v = load::byte_inside(text, Place(at + (m - 8)));
@@ -96,7 +96,7 @@ fn next_mark(text: &[u8], n: u32, word: &[u8], m: u32, cells: &[u64], s: Place) 
 pub fn step(
     text: &[u8],
     n: u32,
-    word: &[u8],
+    pattern: &[u8],
     m: u32,
     h: Head,
     cells: &[u64],
@@ -104,13 +104,13 @@ pub fn step(
     list: &mut [u32],
     had: usize,
 ) -> Found
-    requires { ⌜ Ready Method.Hash (textOf (now text) n) (patternOf (now word) m) (now cells) ⌝ }
-    requires { ⌜ HeadOf (patternOf (now word) m) (h .bits) (h .cut) ⌝ }
-    requires { ⌜ (s .0 < places (textOf (now text) n) (patternOf (now word) m)) × (had ≤ length (now list)) ⌝ }
-    ensures { λ r. ⌜ Stepped Method.Hash (textOf (now (text .entry)) n) (patternOf (now (word .entry)) m) (s .0) (now (list .entry)) had (r .at .0) (r .hits) (r .full) (now (list .exit)) ⌝ }
+    requires { ⌜ Ready Method.Hash (textOf (now text) n) (patternOf (now pattern) m) (now cells) ⌝ }
+    requires { ⌜ HeadOf (patternOf (now pattern) m) (h .bits) (h .cut) ⌝ }
+    requires { ⌜ (s .0 < places (textOf (now text) n) (patternOf (now pattern) m)) × (had ≤ length (now list)) ⌝ }
+    ensures { λ r. ⌜ Stepped Method.Hash (textOf (now (text .entry)) n) (patternOf (now (pattern .entry)) m) (s .0) (now (list .entry)) had (r .at .0) (r .hits) (r .full) (now (list .exit)) ⌝ }
 {
-    let next = Place(next_mark(text, n, word, m, cells, s));
-    if compare::stands(text, word, m, s) {
+    let next = Place(next_mark(text, n, pattern, m, cells, s));
+    if compare::stands(text, pattern, m, s) {
         if had < list.len() {
             list[had] = s.0;
             return Found {
@@ -137,7 +137,7 @@ pub fn step(
 pub fn advance(
     text: &[u8],
     n: u32,
-    word: &[u8],
+    pattern: &[u8],
     m: u32,
     h: Head,
     cells: &[u64],
@@ -146,14 +146,14 @@ pub fn advance(
     list: &mut [u32],
     had: usize,
 ) -> Advance
-    requires { ⌜ Ready Method.Hash (textOf (now text) n) (patternOf (now word) m) (now cells) ⌝ }
-    requires { ⌜ HeadOf (patternOf (now word) m) (h .bits) (h .cut) ⌝ }
-    requires { ⌜ (s .0 ≤ places (textOf (now text) n) (patternOf (now word) m)) × (had ≤ length (now list)) ⌝ }
-    ensures { λ r. ⌜ Advanced Method.Hash (textOf (now (text .entry)) n) (patternOf (now (word .entry)) m) (s .0) budget (now (list .entry)) had (r .at .0) (r .steps) (r .hits) (r .full) (now (list .exit)) ⌝ }
+    requires { ⌜ Ready Method.Hash (textOf (now text) n) (patternOf (now pattern) m) (now cells) ⌝ }
+    requires { ⌜ HeadOf (patternOf (now pattern) m) (h .bits) (h .cut) ⌝ }
+    requires { ⌜ (s .0 ≤ places (textOf (now text) n) (patternOf (now pattern) m)) × (had ≤ length (now list)) ⌝ }
+    ensures { λ r. ⌜ Advanced Method.Hash (textOf (now (text .entry)) n) (patternOf (now (pattern .entry)) m) (s .0) budget (now (list .entry)) had (r .at .0) (r .steps) (r .hits) (r .full) (now (list .exit)) ⌝ }
 {
     let end = n - m + 1;
     let back = m - 8;
-    let last = load::byte_inside(word, Place(back));
+    let last = load::byte_inside(pattern, Place(back));
     let mut at = s.0;
     let mut steps = 0u32;
     let mut hits = had;
@@ -161,7 +161,7 @@ pub fn advance(
         let v = load::byte_inside(text, Place(at + back));
         steps += 1;
         if v == last {
-            if compare::same(text, word, m, h, Place(at)) {
+            if compare::same(text, pattern, m, h, Place(at)) {
                 if list.len() <= hits {
                     return Advance {
                         at: Place(at),

@@ -9,12 +9,12 @@ ghost use Rattle.rules.specs.Hash.{meets, hashOf};
 ghost use Rattle.matcher.specs.Progress.{patternOf, GoodPattern};
 
 // Where no place of the pattern shows the whole value: its first k bits are the value's last, the most bits first.
-fn hash_by_first_bits(word: &[u8], m: u32, value: u8) -> u32
-    requires { ⌜ GoodPattern Method.Hash (patternOf (now word) m) ⌝ }
-    requires { ⌜ ((d : ℕ) → d < m - 7 → meets (patternOf (now word) m) value d ≡ false) ⌝ }
-    ensures { λ r. ⌜ r ≡ hashOf (patternOf (now (word .entry)) m) value ⌝ }
+fn hash_by_first_bits(pattern: &[u8], m: u32, value: u8) -> u32
+    requires { ⌜ GoodPattern Method.Hash (patternOf (now pattern) m) ⌝ }
+    requires { ⌜ ((d : ℕ) → d < m - 7 → meets (patternOf (now pattern) m) value d ≡ false) ⌝ }
+    ensures { λ r. ⌜ r ≡ hashOf (patternOf (now (pattern .entry)) m) value ⌝ }
 {
-    let first = load::byte_at(word, Place(0)) as u32;
+    let first = load::byte_at(pattern, Place(0)) as u32;
     let mut k = 7u32;
     while 0 < k {
         if value as u32 % (1 << k) == first >> (8 - k) {
@@ -26,16 +26,16 @@ fn hash_by_first_bits(word: &[u8], m: u32, value: u8) -> u32
 }
 
 // H(B): the whole value first, from the pattern's end on.
-pub fn hash_of(word: &[u8], m: u32, value: u8) -> u32
-    requires { ⌜ GoodPattern Method.Hash (patternOf (now word) m) ⌝ }
-    ensures { λ r. ⌜ r ≡ hashOf (patternOf (now (word .entry)) m) value ⌝ }
+pub fn hash_of(pattern: &[u8], m: u32, value: u8) -> u32
+    requires { ⌜ GoodPattern Method.Hash (patternOf (now pattern) m) ⌝ }
+    ensures { λ r. ⌜ r ≡ hashOf (patternOf (now (pattern .entry)) m) value ⌝ }
 {
     let mut d = 0u32;
     while d + 8 <= m {
-        if load::byte_at(word, Place(m - 8 - d)) == value {
+        if load::byte_at(pattern, Place(m - 8 - d)) == value {
             return d;
         }
         d += 1;
     }
-    hash_by_first_bits(word, m, value)
+    hash_by_first_bits(pattern, m, value)
 }

@@ -26,19 +26,19 @@ unfolding lineOf
 refused-line x q r list scratch p = rw (p .verdict-is)
 
 -- the first cells are the places written
-written-first : (q : Request) (a : Answer) (list scratch : List ℕ) → AcceptedAs q a list scratch → take (a .hits) list ≡ machine q .written
+written-first : (q : Request) (a : Answer) (list scratch : List ℕ) → AcceptedAs q a list scratch → take (a .occurrences) list ≡ machine q .written
 written-first q a list scratch p =
-    rw (p .answer .hits, p .list-is) (take-append-seam (machine q .written) (drop (length (machine q .written)) (q .list)))
+    rw (p .answer .occurrences, p .list-is) (take-append-seam (machine q .written) (drop (length (machine q .written)) (q .list)))
 
 accepted-line : (x : Method) (q : Request) (a : Answer) (list scratch : List ℕ) → AcceptedAs q a list scratch
-    → acceptedLine x (a .steps) (take (a .hits) list) ≡ lineOf x (verdict q)
+    → acceptedLine x (a .steps) (take (a .occurrences) list) ≡ lineOf x (verdict q)
 unfolding lineOf
 accepted-line x q a list scratch p =
     rw (p .verdict-is, written-first q a list scratch p, p .answer .steps)
 
-accepted-room : (q : Request) (a : Answer) (list scratch : List ℕ) → AcceptedAs q a list scratch → a .hits ≤ length list
+accepted-room : (q : Request) (a : Answer) (list scratch : List ℕ) → AcceptedAs q a list scratch → a .occurrences ≤ length list
 accepted-room q a list scratch p =
-    rw (p .answer .hits, p .list-is, length-append) (omega arith)
+    rw (p .answer .occurrences, p .list-is, length-append) (omega arith)
 
 -- a call of the program, from a fresh mark, with cells for all, and the cells that it leaves
 pub record Call (t : Packed) (w : Pattern) (x : Method) (list scratch : List ℕ) (o : Outcome) (after free : List ℕ) : Type 0 where
@@ -61,12 +61,12 @@ module _ {t : Packed} {w : Pattern} {x : Method} {list scratch : List ℕ} {o : 
       let q = rw is at as-lent in
       rw (e, is) (refused-line x (lent t w x list scratch) r after free q ∙ line-is)
 
-  pub accepted-printed : {a : Answer} → o ≡ Accepted a → acceptedLine x (a .steps) (take (a .hits) after) ≡ searchLine t w x
+  pub accepted-printed : {a : Answer} → o ≡ Accepted a → acceptedLine x (a .steps) (take (a .occurrences) after) ≡ searchLine t w x
   accepted-printed {a} is =
       let q = rw is at as-lent in
       accepted-line x (lent t w x list scratch) a after free q ∙ line-is
 
-  pub fits : {a : Answer} → o ≡ Accepted a → a .hits ≤ length after
+  pub fits : {a : Answer} → o ≡ Accepted a → a .occurrences ≤ length after
   fits {a} is =
       let q = rw is at as-lent in
       accepted-room (lent t w x list scratch) a after free q

@@ -26,9 +26,9 @@ four-stored t w x y z u p q r s plain hash skip wide =
     rw (plain, hash, skip, wide) at (puts-then p (puts-then q (puts-then r s)))
 
 -- the bytes that are packed from the input's two lines, and the characters' numbers, give the lines of the bits
-pub packed-printed : (s : List ℕ) (m n : ℕ) {word text : List ℕ} → m + n + 2 ≡ length s → word ≡ packed (map bitOf (take m s))
+pub packed-printed : (s : List ℕ) (m n : ℕ) {pattern text : List ℕ} → m + n + 2 ≡ length s → pattern ≡ packed (map bitOf (take m s))
     → text ≡ packed (map bitOf (take (m + 1 + n - (m + 1)) (drop (m + 1) s)))
-    → fourLines (record { bytes = text; count = n }) (record { bytes = word; count = m }) ≡ printedOf (inputIn s (Lines m n))
+    → fourLines (record { bytes = text; count = n }) (record { bytes = pattern; count = m }) ≡ printedOf (inputIn s (Lines m n))
 unfolding printedOf
 packed-printed s m n size e f =
     let first : length (map bitOf (take m s)) ≡ m = simp (length-map, length-take) (omega arith) in

@@ -6,7 +6,6 @@ use lines::parse::Input;
 use search::Mark;
 use search::Method;
 use search::Outcome;
-use search::Refusal;
 ghost use mathlib.Core.Path.{_≡_};
 ghost use Prim.Native.Nat.{_+_, _-_, _≤_};
 ghost use lib.ListN.{length, take};
@@ -25,15 +24,7 @@ fn number_in(outcome: Outcome) -> u32
     let Outcome::Refused(why) = outcome else {
         return 0;
     };
-    match why {
-        Refusal::TextTooLong => 1,
-        Refusal::TextBytesMissing => 2,
-        Refusal::PatternLength => 3,
-        Refusal::PatternBytesMissing => 4,
-        Refusal::PatternTooShort => 5,
-        Refusal::MarkBeyondPlaces => 6,
-        Refusal::ScratchTooShort => 7,
-    }
+    why.number()
 }
 
 // Searches the first n bits of the text for the pattern of m bits by one method, and stores its line from `at` on. There
@@ -41,35 +32,35 @@ fn number_in(outcome: Outcome) -> u32
 fn search_line(
     text: &[u8],
     n: u64,
-    word: &[u8],
+    pattern: &[u8],
     m: u64,
     method: Method,
     out: &mut [u8],
     at: usize,
 ) -> usize
     requires { ⌜ (1 + n - m ≤ 4096) × (at + 45084 ≤ length (now out)) ⌝ }
-    ensures is { λ r. ⌜ Puts (now (out .entry)) at (searchLine (record { bytes = now (text .entry); count = n }) (record { bytes = now (word .entry); count = m }) method) r (now (out .exit)) ⌝ }
+    ensures is { λ r. ⌜ Puts (now (out .entry)) at (searchLine (record { bytes = now (text .entry); count = n }) (record { bytes = now (pattern .entry); count = m }) method) r (now (out .exit)) ⌝ }
     ensures short { λ r. ⌜ r ≤ at + 45084 ⌝ }
 {
     let mut list = [0u32; 4096];
     let mut scratch = [0u64; 4224];
-    let outcome = Mark::new().search(text, n, word, m, method, BUDGET, &mut list, &mut scratch);
+    let outcome = Mark::new().search(text, n, pattern, m, method, BUDGET, &mut list, &mut scratch);
     let Outcome::Accepted(answer) = outcome else {
         return line::refused(out, at, method, number_in(outcome));
     };
-    line::accepted(out, at, method, answer.steps, answer.hits, &list)
+    line::accepted(out, at, method, answer.steps, answer.occurrences, &list)
 }
 
 // Stores the lines of the four methods.
-fn four_lines(text: &[u8], n: u64, word: &[u8], m: u64, out: &mut [u8]) -> usize
+fn four_lines(text: &[u8], n: u64, pattern: &[u8], m: u64, out: &mut [u8]) -> usize
     requires { ⌜ (1 + n - m ≤ 4096) × (180336 ≤ length (now out)) ⌝ }
-    ensures is { λ r. ⌜ Puts (now (out .entry)) 0 (fourLines (record { bytes = now (text .entry); count = n }) (record { bytes = now (word .entry); count = m })) r (now (out .exit)) ⌝ }
+    ensures is { λ r. ⌜ Puts (now (out .entry)) 0 (fourLines (record { bytes = now (text .entry); count = n }) (record { bytes = now (pattern .entry); count = m })) r (now (out .exit)) ⌝ }
     ensures short { λ r. ⌜ r ≤ 180336 ⌝ }
 {
-    let a = search_line(text, n, word, m, Method::Plain, out, 0);
-    let b = search_line(text, n, word, m, Method::Hash, out, a);
-    let c = search_line(text, n, word, m, Method::Skip, out, b);
-    search_line(text, n, word, m, Method::Wide, out, c)
+    let a = search_line(text, n, pattern, m, Method::Plain, out, 0);
+    let b = search_line(text, n, pattern, m, Method::Hash, out, a);
+    let c = search_line(text, n, pattern, m, Method::Skip, out, b);
+    search_line(text, n, pattern, m, Method::Wide, out, c)
 }
 
 // Packs a pattern of m characters and a text of n, which start and end the input, and stores their lines.
@@ -78,15 +69,15 @@ fn packed_lines(input: &[u8], m: usize, n: usize, out: &mut [u8]) -> usize
     ensures is { λ r. ⌜ Puts (now (out .entry)) 0 (printedOf (inputIn (now (input .entry)) (Input.Lines m n))) r (now (out .exit)) ⌝ }
     ensures short { λ r. ⌜ r ≤ 180336 ⌝ }
 {
-    let mut word_bytes = [0u8; 256];
+    let mut pattern_bytes = [0u8; 256];
     let mut text_bytes = [0u8; 512];
     let start = m + 1;
     let end = start + n;
-    let a = pack::pack(&input[..m], &mut word_bytes);
+    let a = pack::pack(&input[..m], &mut pattern_bytes);
     let b = pack::pack(&input[start..end], &mut text_bytes);
-    let word: &[u8] = &word_bytes[..a];
+    let pattern: &[u8] = &pattern_bytes[..a];
     let text: &[u8] = &text_bytes[..b];
-    four_lines(text, n as u64, word, m as u64, out)
+    four_lines(text, n as u64, pattern, m as u64, out)
 }
 
 // Stores what is printed for the input, the four lines or that it is bad, to the front of `out`, and gives how many bytes

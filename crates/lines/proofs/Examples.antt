@@ -30,9 +30,9 @@ unfolding parse readLine prepend firstLine secondLine
 carriage-return = refl
 
 -- document 01's V1, 0100110100
-word : packed (0 ∷ 1 ∷ 0 ∷ 0 ∷ 1 ∷ 1 ∷ 0 ∷ 1 ∷ 0 ∷ 0 ∷ []) ≡ 0b01001101 ∷ 0b00000000 ∷ []
+pattern : packed (0 ∷ 1 ∷ 0 ∷ 0 ∷ 1 ∷ 1 ∷ 0 ∷ 1 ∷ 0 ∷ 0 ∷ []) ≡ 0b01001101 ∷ 0b00000000 ∷ []
 unfolding packed bytesFrom bitsFrom
-word = refl
+pattern = refl
 
 decimal : decimalOf 4294967295 ≡ 52 ∷ 50 ∷ 57 ∷ 52 ∷ 57 ∷ 54 ∷ 55 ∷ 50 ∷ 57 ∷ 53 ∷ []
 unfolding decimalOf digitsOf

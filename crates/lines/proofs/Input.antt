@@ -192,8 +192,8 @@ beginning s k h = go (leb (length s) k) refl
 -- ---- what the code finds by its indices: the first line ends at m and the second at e
 
 module _ (s : List ℕ) (m e : ℕ) (first : lineIn s 0 (At m) ≡ readLine (drop 0 s)) (second : lineIn s (m + 1) (At e) ≡ readLine (drop (m + 1) s)) (below : m + 1 ≤ e) (inside : e < length s) where
-  abbrev word : List ℕ
-  word = map bitOf (take m s)
+  abbrev pattern : List ℕ
+  pattern = map bitOf (take m s)
 
   abbrev text : List ℕ
   text = map bitOf (take (e - (m + 1)) (drop (m + 1) s))
@@ -201,24 +201,24 @@ module _ (s : List ℕ) (m e : ℕ) (first : lineIn s 0 (At m) ≡ readLine (dro
   abbrev after : List ℕ
   after = drop (e + 1) s
 
-  both : parse s ≡ secondLine word (line text after)
+  both : parse s ≡ secondLine pattern (line text after)
   both =
       let whole : m - 0 ≡ m = omega arith in
-      two-lines s word (drop (m + 1) s) text after (sym (rw whole at first)) (sym second)
+      two-lines s pattern (drop (m + 1) s) text after (sym (rw whole at first)) (sym second)
 
-  sizes : fits (length word) (length text) ≡ fits m (e - (m + 1))
+  sizes : fits (length pattern) (length text) ≡ fits m (e - (m + 1))
   sizes =
-      let a : length word ≡ m = simp (length-map, length-take) (omega arith) in
+      let a : length pattern ≡ m = simp (length-map, length-take) (omega arith) in
       let b : length text ≡ e - (m + 1) = simp (length-map, length-take, length-drop) (omega arith) in
       rw (a, b)
 
   pub left-over : e + 1 < length s → bad ≡ parse s
-  left-over h = sym (both ∙ more-after word text after (rw length-drop (omega arith)))
+  left-over h = sym (both ∙ more-after pattern text after (rw length-drop (omega arith)))
 
-  all-read : length s ≤ e + 1 → parse s ≡ cond (fits m (e - (m + 1))) (lines word text) bad
-  all-read h = both ∙ none-after word text after (rw length-drop (omega arith)) ∙ rw sizes
+  all-read : length s ≤ e + 1 → parse s ≡ cond (fits m (e - (m + 1))) (lines pattern text) bad
+  all-read h = both ∙ none-after pattern text after (rw length-drop (omega arith)) ∙ rw sizes
 
-  pub taken : length s ≤ e + 1 → fits m (e - (m + 1)) ≡ true → lines word text ≡ parse s
+  pub taken : length s ≤ e + 1 → fits m (e - (m + 1)) ≡ true → lines pattern text ≡ parse s
   taken h f = sym (all-read h ∙ rw f)
 
   pub not-taken : length s ≤ e + 1 → fits m (e - (m + 1)) ≡ false → bad ≡ parse s

@@ -20,45 +20,26 @@ use draws::packed::get8;
 use draws::packed::put8;
 use positions::ByteCount;
 use positions::ReadAnswer;
-use positions::ReadRefusal;
-use positions::WriteRefusal;
 use positions::Written;
-
-fn write_number(why: WriteRefusal) -> usize {
-    match why {
-        WriteRefusal::NotRising => REFUSED + 8,
-        WriteRefusal::TargetShort => REFUSED + 9,
-    }
-}
 
 fn written_in(answer: Written) -> usize {
     match answer {
         Written::Bytes(n) => n,
-        Written::Refused(why) => write_number(why),
+        Written::Refused(why) => REFUSED + why.number() as usize,
     }
 }
 
 fn counted_in(answer: ByteCount) -> usize {
     match answer {
         ByteCount::Bytes(n) => n,
-        ByteCount::Refused(why) => write_number(why),
-    }
-}
-
-fn read_number(why: ReadRefusal) -> usize {
-    match why {
-        ReadRefusal::EndsEarly => REFUSED + 10,
-        ReadRefusal::NotFewest => REFUSED + 11,
-        ReadRefusal::TooLarge => REFUSED + 12,
-        ReadRefusal::LeftOver => REFUSED + 13,
-        ReadRefusal::FewCells => REFUSED + 14,
+        ByteCount::Refused(why) => REFUSED + why.number() as usize,
     }
 }
 
 fn read_in(answer: ReadAnswer) -> usize {
     match answer {
         ReadAnswer::Count(n) => n,
-        ReadAnswer::Refused(why) => read_number(why),
+        ReadAnswer::Refused(why) => REFUSED + why.number() as usize,
     }
 }
 

@@ -67,44 +67,44 @@ module _ (t : Packed) (w : Pattern) (s : ℕ) where
       (λ e. eq-eqb _ _ (chunk-of (w .count - k) k (omega arith) e))
 
 -- Comparison by loads of 64 bits, however they are made: x is the load of the text, y that of the pattern.
-module _ (text word : List ℕ) (m s : ℕ) where
+module _ (text pattern : List ℕ) (m s : ℕ) where
   -- a pattern of at most 64 bits takes one load
-  pub one-load : {x y : ℕ} → m ≤ 64 → x ≡ bitsAt text s 64 → y ≡ bitsAt word 0 64
-      → eqb (x / 2 ^ (64 - m)) (y / 2 ^ (64 - m)) ≡ matches (textOf text 0) (patternOf word m) s
+  pub one-load : {x y : ℕ} → m ≤ 64 → x ≡ bitsAt text s 64 → y ≡ bitsAt pattern 0 64
+      → eqb (x / 2 ^ (64 - m)) (y / 2 ^ (64 - m)) ≡ matches (textOf text 0) (patternOf pattern m) s
   one-load h e f =
       let all : m - m ≡ 0 = omega arith in
-      rw (e, f, bits-first text s {j = m} {k = 64} h, bits-first word 0 {j = m} {k = 64} h)
-      (rw (all, add-zero s) at (chunk-decides (textOf text 0) (patternOf word m) s 0 m (λ j l. absurd (omega arith)) (omega arith) (omega arith)))
+      rw (e, f, bits-first text s {j = m} {k = 64} h, bits-first pattern 0 {j = m} {k = 64} h)
+      (rw (all, add-zero s) at (chunk-decides (textOf text 0) (patternOf pattern m) s 0 m (λ j l. absurd (omega arith)) (omega arith) (omega arith)))
 
   -- a longer one takes several: those before o, whole bytes, agree
   pub record Passed (o : ℕ) : Type 0 where
     pub below : o < m
     pub bytes : o % 8 ≡ 0
-    pub agree : AgreesTo (textOf text 0) (patternOf word m) s o
+    pub agree : AgreesTo (textOf text 0) (patternOf pattern m) s o
 
   pub none-passed : 0 < m → Passed 0
   none-passed h = record { below = h; bytes = omega arith; agree = λ j l. absurd (omega arith) }
 
   -- so the pattern's next load is one from a byte on
-  pub next-byte : {y b : ℕ} (o : ℕ) → Passed o → b ≡ o / 8 → y ≡ bitsAt word (b * 8) 64 → y ≡ bitsAt word o 64
+  pub next-byte : {y b : ℕ} (o : ℕ) → Passed o → b ≡ o / 8 → y ≡ bitsAt pattern (b * 8) 64 → y ≡ bitsAt pattern o 64
   next-byte {y} {b} o p e f =
       let there : b * 8 ≡ o = omega (arith, p .bytes) in
       rw there at f
 
-  pub next-differs : {x y : ℕ} (o : ℕ) → o + 64 < m → x ≡ bitsAt text (s + o) 64 → y ≡ bitsAt word o 64 → (x ≡ y → ⊥)
-      → false ≡ matches (textOf text 0) (patternOf word m) s
-  next-differs o h e f ne = sym (chunk-differs (textOf text 0) (patternOf word m) s o 64 (omega arith) (λ g. ne (e ∙ g ∙ sym f)))
+  pub next-differs : {x y : ℕ} (o : ℕ) → o + 64 < m → x ≡ bitsAt text (s + o) 64 → y ≡ bitsAt pattern o 64 → (x ≡ y → ⊥)
+      → false ≡ matches (textOf text 0) (patternOf pattern m) s
+  next-differs o h e f ne = sym (chunk-differs (textOf text 0) (patternOf pattern m) s o 64 (omega arith) (λ g. ne (e ∙ g ∙ sym f)))
 
-  pub next-agrees : {x y : ℕ} (o : ℕ) → Passed o → o + 64 < m → x ≡ bitsAt text (s + o) 64 → y ≡ bitsAt word o 64 → x ≡ y
+  pub next-agrees : {x y : ℕ} (o : ℕ) → Passed o → o + 64 < m → x ≡ bitsAt text (s + o) 64 → y ≡ bitsAt pattern o 64 → x ≡ y
       → Passed (o + 64)
   next-agrees o p h e f g =
       record {
         below = h;
         bytes = omega (arith, p .bytes);
-        agree = agrees-more (textOf text 0) (patternOf word m) s o 64 (p .agree) (sym e ∙ g ∙ f);
+        agree = agrees-more (textOf text 0) (patternOf pattern m) s o 64 (p .agree) (sym e ∙ g ∙ f);
       }
 
   -- the last load, which may overlap the one before it, decides
   pub last-decides : {x y : ℕ} (o : ℕ) → Passed o → m ≤ o + 64 → 64 ≤ m → x ≡ bitsAt text (s + (m - 64)) 64
-      → y ≡ bitsAt word (m - 64) 64 → eqb x y ≡ matches (textOf text 0) (patternOf word m) s
-  last-decides o p h l e f = ap₂ eqb e f ∙ chunk-decides (textOf text 0) (patternOf word m) s o 64 (p .agree) l h
+      → y ≡ bitsAt pattern (m - 64) 64 → eqb x y ≡ matches (textOf text 0) (patternOf pattern m) s
+  last-decides o p h l e f = ap₂ eqb e f ∙ chunk-decides (textOf text 0) (patternOf pattern m) s o 64 (p .agree) l h

@@ -12,16 +12,16 @@ ghost use Rattle.matcher.specs.Tables.{cellsFor, Prepared};
 ghost use Rattle.matcher.specs.Progress.{textOf, patternOf, HeadOf, GoodPattern, Ready, Stepped, Advanced};
 
 // Makes the method's tables.
-pub fn prepare(method: Method, word: &[u8], m: u32, cells: &mut [u64])
-    requires { ⌜ GoodPattern method (patternOf (now word) m) ⌝ }
+pub fn prepare(method: Method, pattern: &[u8], m: u32, cells: &mut [u64])
+    requires { ⌜ GoodPattern method (patternOf (now pattern) m) ⌝ }
     requires { ⌜ cellsFor method m ≤ length (now cells) ⌝ }
-    ensures { λ _. ⌜ Prepared method (patternOf (now (word .entry)) m) (now (cells .entry)) (now (cells .exit)) ⌝ }
+    ensures { λ _. ⌜ Prepared method (patternOf (now (pattern .entry)) m) (now (cells .entry)) (now (cells .exit)) ⌝ }
 {
     match method {
-        Method::Plain => plain::prepare(word, m, cells),
-        Method::Hash => hash::prepare(word, m, cells),
-        Method::Skip => skip::prepare(word, m, cells),
-        Method::Wide => wide::prepare(word, m, cells),
+        Method::Plain => plain::prepare(pattern, m, cells),
+        Method::Hash => hash::prepare(pattern, m, cells),
+        Method::Skip => skip::prepare(pattern, m, cells),
+        Method::Wide => wide::prepare(pattern, m, cells),
     }
 }
 
@@ -30,7 +30,7 @@ pub fn step(
     method: Method,
     text: &[u8],
     n: u32,
-    word: &[u8],
+    pattern: &[u8],
     m: u32,
     h: Head,
     cells: &[u64],
@@ -38,16 +38,16 @@ pub fn step(
     list: &mut [u32],
     had: usize,
 ) -> Found
-    requires { ⌜ Ready method (textOf (now text) n) (patternOf (now word) m) (now cells) ⌝ }
-    requires { ⌜ HeadOf (patternOf (now word) m) (h .bits) (h .cut) ⌝ }
-    requires { ⌜ (s .0 < places (textOf (now text) n) (patternOf (now word) m)) × (had ≤ length (now list)) ⌝ }
-    ensures { λ r. ⌜ Stepped method (textOf (now (text .entry)) n) (patternOf (now (word .entry)) m) (s .0) (now (list .entry)) had (r .at .0) (r .hits) (r .full) (now (list .exit)) ⌝ }
+    requires { ⌜ Ready method (textOf (now text) n) (patternOf (now pattern) m) (now cells) ⌝ }
+    requires { ⌜ HeadOf (patternOf (now pattern) m) (h .bits) (h .cut) ⌝ }
+    requires { ⌜ (s .0 < places (textOf (now text) n) (patternOf (now pattern) m)) × (had ≤ length (now list)) ⌝ }
+    ensures { λ r. ⌜ Stepped method (textOf (now (text .entry)) n) (patternOf (now (pattern .entry)) m) (s .0) (now (list .entry)) had (r .at .0) (r .hits) (r .full) (now (list .exit)) ⌝ }
 {
     match method {
-        Method::Plain => plain::step(text, n, word, m, h, cells, s, list, had),
-        Method::Hash => hash::step(text, n, word, m, h, cells, s, list, had),
-        Method::Skip => skip::step(text, n, word, m, h, cells, s, list, had),
-        Method::Wide => wide::step(text, n, word, m, h, cells, s, list, had),
+        Method::Plain => plain::step(text, n, pattern, m, h, cells, s, list, had),
+        Method::Hash => hash::step(text, n, pattern, m, h, cells, s, list, had),
+        Method::Skip => skip::step(text, n, pattern, m, h, cells, s, list, had),
+        Method::Wide => wide::step(text, n, pattern, m, h, cells, s, list, had),
     }
 }
 
@@ -56,7 +56,7 @@ pub fn advance(
     method: Method,
     text: &[u8],
     n: u32,
-    word: &[u8],
+    pattern: &[u8],
     m: u32,
     h: Head,
     cells: &[u64],
@@ -65,15 +65,15 @@ pub fn advance(
     list: &mut [u32],
     had: usize,
 ) -> Advance
-    requires { ⌜ Ready method (textOf (now text) n) (patternOf (now word) m) (now cells) ⌝ }
-    requires { ⌜ HeadOf (patternOf (now word) m) (h .bits) (h .cut) ⌝ }
-    requires { ⌜ (s .0 ≤ places (textOf (now text) n) (patternOf (now word) m)) × (had ≤ length (now list)) ⌝ }
-    ensures { λ r. ⌜ Advanced method (textOf (now (text .entry)) n) (patternOf (now (word .entry)) m) (s .0) budget (now (list .entry)) had (r .at .0) (r .steps) (r .hits) (r .full) (now (list .exit)) ⌝ }
+    requires { ⌜ Ready method (textOf (now text) n) (patternOf (now pattern) m) (now cells) ⌝ }
+    requires { ⌜ HeadOf (patternOf (now pattern) m) (h .bits) (h .cut) ⌝ }
+    requires { ⌜ (s .0 ≤ places (textOf (now text) n) (patternOf (now pattern) m)) × (had ≤ length (now list)) ⌝ }
+    ensures { λ r. ⌜ Advanced method (textOf (now (text .entry)) n) (patternOf (now (pattern .entry)) m) (s .0) budget (now (list .entry)) had (r .at .0) (r .steps) (r .hits) (r .full) (now (list .exit)) ⌝ }
 {
     match method {
-        Method::Plain => plain::advance(text, n, word, m, h, cells, s, budget, list, had),
-        Method::Hash => hash::advance(text, n, word, m, h, cells, s, budget, list, had),
-        Method::Skip => skip::advance(text, n, word, m, h, cells, s, budget, list, had),
-        Method::Wide => wide::advance(text, n, word, m, h, cells, s, budget, list, had),
+        Method::Plain => plain::advance(text, n, pattern, m, h, cells, s, budget, list, had),
+        Method::Hash => hash::advance(text, n, pattern, m, h, cells, s, budget, list, had),
+        Method::Skip => skip::advance(text, n, pattern, m, h, cells, s, budget, list, had),
+        Method::Wide => wide::advance(text, n, pattern, m, h, cells, s, budget, list, had),
     }
 }

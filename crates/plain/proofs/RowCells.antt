@@ -121,7 +121,7 @@ module _ (t : Packed) (w : Pattern) (cells : List ℕ) (tables : PlainTables w c
       let there : 8 * (s / 8) + 64 * k + j ≡ s + q = omega arith in
       let index : 8 * (8 * k + j / 8) + j % 8 - s % 8 ≡ q = omega arith in
       let text : bitAt (t .bytes) (8 * (s / 8) + 64 * k + j) ≡ bitAt (t .bytes) (s + q) = ap (bitAt (t .bytes)) there in
-      let word : bitAt (w .bytes) (8 * (8 * k + j / 8) + j % 8 - s % 8) ≡ bitAt (w .bytes) q = ap (bitAt (w .bytes)) index in
+      let pattern : bitAt (w .bytes) (8 * (8 * k + j / 8) + j % 8 - s % 8) ≡ bitAt (w .bytes) q = ap (bitAt (w .bytes)) index in
       agrees-iff w q (bitAt (t .bytes) (s + q)) .1
       (omega (arith, mask-bit-is w (s % 8) (8 * k + j / 8) (j % 8) true inside, row-bit-is w (s % 8) (8 * k + j / 8) (j % 8) true inside, bit-lt (t .bytes) (s + q)))
 

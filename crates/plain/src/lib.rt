@@ -57,10 +57,10 @@ fn fill(cells: &mut [u64], k: usize, prev: u64, x: u64, prev_mask: u64, mask: u6
 }
 
 // Makes the rows and their masks.
-pub fn prepare(word: &[u8], m: u32, cells: &mut [u64])
-    requires { ⌜ GoodPattern Method.Plain (patternOf (now word) m) ⌝ }
+pub fn prepare(pattern: &[u8], m: u32, cells: &mut [u64])
+    requires { ⌜ GoodPattern Method.Plain (patternOf (now pattern) m) ⌝ }
     requires { ⌜ cellsFor Method.Plain m ≤ length (now cells) ⌝ }
-    ensures { λ _. ⌜ Prepared Method.Plain (patternOf (now (word .entry)) m) (now (cells .entry)) (now (cells .exit)) ⌝ }
+    ensures { λ _. ⌜ Prepared Method.Plain (patternOf (now (pattern .entry)) m) (now (cells .entry)) (now (cells .exit)) ⌝ }
 {
     let chunks = (m + 70) / 64;
     let mut prev = 0u64;
@@ -68,7 +68,7 @@ pub fn prepare(word: &[u8], m: u32, cells: &mut [u64])
     let mut k = 0u32;
     while k < chunks {
         let mask = ones(m, k);
-        let x = load::word_at(word, Place(64 * k)) & mask;
+        let x = load::word_at(pattern, Place(64 * k)) & mask;
         fill(cells, k as usize, prev, x, prev_mask, mask);
         prev = x;
         prev_mask = mask;
@@ -157,7 +157,7 @@ fn reach(s: Place, end: Place, budget: u32) -> Place
 pub fn step(
     text: &[u8],
     n: u32,
-    word: &[u8],
+    pattern: &[u8],
     m: u32,
     h: Head,
     cells: &[u64],
@@ -165,10 +165,10 @@ pub fn step(
     list: &mut [u32],
     had: usize,
 ) -> Found
-    requires { ⌜ Ready Method.Plain (textOf (now text) n) (patternOf (now word) m) (now cells) ⌝ }
-    requires { ⌜ HeadOf (patternOf (now word) m) (h .bits) (h .cut) ⌝ }
-    requires { ⌜ (s .0 < places (textOf (now text) n) (patternOf (now word) m)) × (had ≤ length (now list)) ⌝ }
-    ensures { λ r. ⌜ Stepped Method.Plain (textOf (now (text .entry)) n) (patternOf (now (word .entry)) m) (s .0) (now (list .entry)) had (r .at .0) (r .hits) (r .full) (now (list .exit)) ⌝ }
+    requires { ⌜ Ready Method.Plain (textOf (now text) n) (patternOf (now pattern) m) (now cells) ⌝ }
+    requires { ⌜ HeadOf (patternOf (now pattern) m) (h .bits) (h .cut) ⌝ }
+    requires { ⌜ (s .0 < places (textOf (now text) n) (patternOf (now pattern) m)) × (had ≤ length (now list)) ⌝ }
+    ensures { λ r. ⌜ Stepped Method.Plain (textOf (now (text .entry)) n) (patternOf (now (pattern .entry)) m) (s .0) (now (list .entry)) had (r .at .0) (r .hits) (r .full) (now (list .exit)) ⌝ }
 {
     let at = s.0;
     if row_fits(text, m, cells, s, 0) {
@@ -198,7 +198,7 @@ pub fn step(
 pub fn advance(
     text: &[u8],
     n: u32,
-    word: &[u8],
+    pattern: &[u8],
     m: u32,
     h: Head,
     cells: &[u64],
@@ -207,10 +207,10 @@ pub fn advance(
     list: &mut [u32],
     had: usize,
 ) -> Advance
-    requires { ⌜ Ready Method.Plain (textOf (now text) n) (patternOf (now word) m) (now cells) ⌝ }
-    requires { ⌜ HeadOf (patternOf (now word) m) (h .bits) (h .cut) ⌝ }
-    requires { ⌜ (s .0 ≤ places (textOf (now text) n) (patternOf (now word) m)) × (had ≤ length (now list)) ⌝ }
-    ensures { λ r. ⌜ Advanced Method.Plain (textOf (now (text .entry)) n) (patternOf (now (word .entry)) m) (s .0) budget (now (list .entry)) had (r .at .0) (r .steps) (r .hits) (r .full) (now (list .exit)) ⌝ }
+    requires { ⌜ Ready Method.Plain (textOf (now text) n) (patternOf (now pattern) m) (now cells) ⌝ }
+    requires { ⌜ HeadOf (patternOf (now pattern) m) (h .bits) (h .cut) ⌝ }
+    requires { ⌜ (s .0 ≤ places (textOf (now text) n) (patternOf (now pattern) m)) × (had ≤ length (now list)) ⌝ }
+    ensures { λ r. ⌜ Advanced Method.Plain (textOf (now (text .entry)) n) (patternOf (now (pattern .entry)) m) (s .0) budget (now (list .entry)) had (r .at .0) (r .steps) (r .hits) (r .full) (now (list .exit)) ⌝ }
 {
     let limit = reach(s, Place(n - m + 1), budget);
     let end = limit.0;

@@ -8,13 +8,13 @@ use Rattle.positions.specs.Basics.{pick, Result, ok, fault}
 use Rattle.positions.specs.Encode.{encode, rising}
 use Rattle.positions.specs.Decode.{decode}
 use Rattle.positions.specs.declared.WriteRefusal.{WriteRefusal}
-use Rattle.positions.specs.declared.WriteRefusal.the-variants.{NotRising, TargetShort}
+use Rattle.positions.specs.declared.WriteRefusal.the-variants.{ListNotRising, TargetTooShort}
 use Rattle.positions.specs.declared.Written.{Written}
 use Rattle.positions.specs.declared.Written.the-variants as written
 use Rattle.positions.specs.declared.ByteCount.{ByteCount}
 use Rattle.positions.specs.declared.ByteCount.the-variants as counts
 use Rattle.positions.specs.declared.ReadRefusal.{ReadRefusal}
-use Rattle.positions.specs.declared.ReadRefusal.the-variants.{EndsEarly, NotFewest, TooLarge, LeftOver, FewCells}
+use Rattle.positions.specs.declared.ReadRefusal.the-variants.{FileEndsEarly, NumberNotShortest, NumberTooLarge, BytesLeftOver, CellsMissing}
 use Rattle.positions.specs.declared.ReadAnswer.{ReadAnswer}
 use Rattle.positions.specs.declared.ReadAnswer.the-variants as answers
 
@@ -26,15 +26,15 @@ pub data Answer : Type 0 where
 -- ---- the number of each refusal, from document 01's table, and the answers of the code
 
 abbrev pub writeRefusal : WriteRefusal → ℕ
-writeRefusal NotRising = 8
-writeRefusal TargetShort = 9
+writeRefusal ListNotRising = 8
+writeRefusal TargetTooShort = 9
 
 abbrev pub readRefusal : ReadRefusal → ℕ
-readRefusal EndsEarly = 10
-readRefusal NotFewest = 11
-readRefusal TooLarge = 12
-readRefusal LeftOver = 13
-readRefusal FewCells = 14
+readRefusal FileEndsEarly = 10
+readRefusal NumberNotShortest = 11
+readRefusal NumberTooLarge = 12
+readRefusal BytesLeftOver = 13
+readRefusal CellsMissing = 14
 
 abbrev pub sizeGives : ByteCount → Answer
 sizeGives (counts.Bytes n) = count n

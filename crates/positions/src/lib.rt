@@ -9,16 +9,30 @@ pub use reader::read;
 pub use writer::rises;
 pub use writer::size;
 pub use writer::write;
+ghost use mathlib.Core.Path.{_≡_};
+ghost use Rattle.positions.specs.Promise.{writeRefusal, readRefusal};
 
 // Positions are below 2^30.
 const LIMIT: u32 = 1073741824;
 
-// Why a list is not written. The number of each case in document 01 is given by specs/Promise.antt.
+// Why a list is not written.
 pub enum WriteRefusal {
     // The positions do not rise strictly, or one is 2^30 or more.
-    NotRising,
+    ListNotRising,
     // The target has fewer bytes than the list needs.
-    TargetShort,
+    TargetTooShort,
+}
+
+impl WriteRefusal {
+    // Document 01's number of the refusal.
+    pub fn number(self) -> u32
+        ensures { λ r. ⌜ r ≡ writeRefusal self ⌝ }
+    {
+        match self {
+            WriteRefusal::ListNotRising => 8,
+            WriteRefusal::TargetTooShort => 9,
+        }
+    }
 }
 
 // The writer's answer.
@@ -34,18 +48,33 @@ pub enum ByteCount {
     Refused(WriteRefusal),
 }
 
-// Why a file is not read. The number of each case in document 01 is given by specs/Promise.antt.
+// Why a file is not read.
 pub enum ReadRefusal {
     // The file ends early.
-    EndsEarly,
+    FileEndsEarly,
     // A number is not in the fewest groups.
-    NotFewest,
+    NumberNotShortest,
     // A number or a position is too large.
-    TooLarge,
+    NumberTooLarge,
     // Bytes are left over.
-    LeftOver,
+    BytesLeftOver,
     // There are fewer cells than the count.
-    FewCells,
+    CellsMissing,
+}
+
+impl ReadRefusal {
+    // Document 01's number of the refusal.
+    pub fn number(self) -> u32
+        ensures { λ r. ⌜ r ≡ readRefusal self ⌝ }
+    {
+        match self {
+            ReadRefusal::FileEndsEarly => 10,
+            ReadRefusal::NumberNotShortest => 11,
+            ReadRefusal::NumberTooLarge => 12,
+            ReadRefusal::BytesLeftOver => 13,
+            ReadRefusal::CellsMissing => 14,
+        }
+    }
 }
 
 // The reader's answer.

@@ -56,7 +56,7 @@ pub(crate) fn read(file: &[u8], at: usize) -> Reading
     ensures { λ r. ⌜ readingIn (now (file .entry)) r ≡ readNumber (drop at (now (file .entry))) ⌝ }
 {
     if file.len() <= at {
-        return Reading::Refused(ReadRefusal::EndsEarly);
+        return Reading::Refused(ReadRefusal::FileEndsEarly);
     }
     let b = file[at] as u32;
     if b < 128 {
@@ -76,17 +76,17 @@ fn read_on(file: &[u8], start: usize, low: u64) -> Reading
     let mut left: u32 = 4;
     while 0 < left {
         if file.len() <= at {
-            return Reading::Refused(ReadRefusal::EndsEarly);
+            return Reading::Refused(ReadRefusal::FileEndsEarly);
         }
         let b = file[at] as u64;
         at += 1;
         if b < 128 {
             if b == 0 {
-                return Reading::Refused(ReadRefusal::NotFewest);
+                return Reading::Refused(ReadRefusal::NumberNotShortest);
             }
             let whole = value + b * weight;
             if LARGEST < whole {
-                return Reading::Refused(ReadRefusal::TooLarge);
+                return Reading::Refused(ReadRefusal::NumberTooLarge);
             }
             return Reading::Number(whole as u32, at);
         }
@@ -94,5 +94,5 @@ fn read_on(file: &[u8], start: usize, low: u64) -> Reading
         weight *= 128;
         left -= 1;
     }
-    Reading::Refused(ReadRefusal::TooLarge)
+    Reading::Refused(ReadRefusal::NumberTooLarge)
 }

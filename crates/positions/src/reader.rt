@@ -27,7 +27,7 @@ fn position(file: &[u8], at: usize, next: u32) -> Reading
             if p < LIMIT {
                 Reading::Number(p, after)
             } else {
-                Reading::Refused(ReadRefusal::TooLarge)
+                Reading::Refused(ReadRefusal::NumberTooLarge)
             }
         }
     }
@@ -54,7 +54,7 @@ fn judge(file: &[u8], start: usize, count: u32) -> ReadAnswer
         left -= 1;
     }
     if at < file.len() {
-        return ReadAnswer::Refused(ReadRefusal::LeftOver);
+        return ReadAnswer::Refused(ReadRefusal::BytesLeftOver);
     }
     ReadAnswer::Count(count as usize)
 }
@@ -96,7 +96,7 @@ pub fn read(file: &[u8], cells: &mut [u32]) -> ReadAnswer
         Reading::Refused(why) => ReadAnswer::Refused(why),
         Reading::Number(count, start) => {
             if cells.len() < count as usize {
-                return ReadAnswer::Refused(ReadRefusal::FewCells);
+                return ReadAnswer::Refused(ReadRefusal::CellsMissing);
             }
             let judged = judge(file, start, count);
             match judged {

@@ -22,10 +22,10 @@ pub fn size(list: &[u32]) -> ByteCount
     while i < list.len() {
         let p = list[i];
         if p < next {
-            return ByteCount::Refused(WriteRefusal::NotRising);
+            return ByteCount::Refused(WriteRefusal::ListNotRising);
         }
         if LIMIT <= p {
-            return ByteCount::Refused(WriteRefusal::NotRising);
+            return ByteCount::Refused(WriteRefusal::ListNotRising);
         }
         bytes += number::size(p - next);
         next = p + 1;
@@ -72,7 +72,7 @@ pub fn write(list: &[u32], target: &mut [u8]) -> Written
         ByteCount::Refused(why) => Written::Refused(why),
         ByteCount::Bytes(n) => {
             if target.len() < n {
-                return Written::Refused(WriteRefusal::TargetShort);
+                return Written::Refused(WriteRefusal::TargetTooShort);
             }
             store(list, target);
             Written::Bytes(n)

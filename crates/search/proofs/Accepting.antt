@@ -81,7 +81,7 @@ module _ (x : Method) (t : Packed) (w : Pattern) (s budget : ℕ) (before cells 
       let k0 = cellsFor x (w .count) in
       let whole : scratchCells ≡ k0 + (scratchCells - k0) = omega arith in
       record {
-        answer = record { steps = k .steps-are ∙ r .steps-are; hits = k .hits-are ∙ r .hits-are; mark = k .mark-is ∙ r .mark-is; ending = k .ending-is ∙ r .ending-is };
+        answer = record { steps = k .steps-are ∙ r .steps-are; occurrences = k .hits-are ∙ r .hits-are; mark = k .mark-is ∙ r .mark-is; ending = k .ending-is ∙ r .ending-is };
         list-is = r .list-is;
         scratch-length = p .size;
         scratch-rest =

@@ -12,7 +12,7 @@ use Rattle.search.specs.declared.Answer.{Answer}
 use Rattle.search.specs.declared.Outcome.{Outcome}
 use Rattle.search.specs.declared.Outcome.the-variants.{Accepted, Refused}
 use Rattle.search.specs.declared.Refusal.{Refusal}
-use Rattle.search.specs.declared.Refusal.the-variants.{TextTooLong, TextBytesMissing, PatternLength, PatternBytesMissing, PatternTooShort, MarkBeyondPlaces, ScratchTooShort}
+use Rattle.search.specs.declared.Refusal.the-variants.{TextTooLong, TextBytesMissing, PatternLength, PatternBytesMissing, PatternTooShort, BeyondEnd, ScratchTooShort}
 use Rattle.search.specs.declared.Stop.{Stop}
 use Rattle.search.specs.declared.Stop.the-variants.{Done, Full, Spent}
 use Rattle.rules.specs.Machine.{Ending, done, spent, full, Run}
@@ -27,7 +27,7 @@ refusalOf k =
     (cond (eqb k 3) PatternLength
     (cond (eqb k 4) PatternBytesMissing
     (cond (eqb k 5) PatternTooShort
-    (cond (eqb k 6) MarkBeyondPlaces ScratchTooShort)))))
+    (cond (eqb k 6) BeyondEnd ScratchTooShort)))))
 
 refusal-back : (r : Refusal) → refusalOf (numberOfRefusal r) ≡ r
 unfolding refusalOf
@@ -36,7 +36,7 @@ refusal-back TextBytesMissing = refl
 refusal-back PatternLength = refl
 refusal-back PatternBytesMissing = refl
 refusal-back PatternTooShort = refl
-refusal-back MarkBeyondPlaces = refl
+refusal-back BeyondEnd = refl
 refusal-back ScratchTooShort = refl
 
 stopFor : Ending → Stop
@@ -60,7 +60,7 @@ answerFor : Run → Answer
 answerFor r =
     record {
       steps = r .steps;
-      hits = length (r .written);
+      occurrences = length (r .written);
       mark = record { at = record { 0 = r .mark } };
       stop = stopFor (r .ending);
     }
@@ -69,7 +69,7 @@ carries-only : (a : Answer) (r : Run) → Carries a r → a ≡ answerFor r
 unfolding answerFor
 carries-only a r c = λ i. record {
   steps = c .steps i;
-  hits = c .hits i;
+  occurrences = c .occurrences i;
   mark = record { at = record { 0 = c .mark i } };
   stop = (sym (stop-back (a .stop)) ∙ ap stopFor (c .ending)) i;
 }
@@ -162,7 +162,7 @@ answered q = go (verdict q) refl
           searched =
               record {
                 verdict-is = accepted-iff q .1 (accepted-fail q r e);
-                answer = record { steps = refl; hits = refl; mark = refl; ending = ending-back (machine q .ending) };
+                answer = record { steps = refl; occurrences = refl; mark = refl; ending = ending-back (machine q .ending) };
                 list-is = refl;
                 scratch-length = refl;
                 scratch-rest = refl;

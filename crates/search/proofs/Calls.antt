@@ -47,7 +47,7 @@ one q (Accepted a) list scratch h c =
     let l = accepted-left q (c .verdict-is) in
     let is = c .answer in
     record {
-      places-are = rw (is .mark, is .hits, c .list-is) (take-at (machine q .written) _ _ refl ∙ l .written-are);
+      places-are = rw (is .mark, is .occurrences, c .list-is) (take-at (machine q .written) _ _ refl ∙ l .written-are);
       low = omega (arith, l .low, is .mark);
       high = omega (arith, l .high, is .mark);
       finished = λ e n.
@@ -150,7 +150,7 @@ result-is q c h = go (c .outcome) h
     go (Accepted a) h =
         let is = h .answer in
         rw (h .verdict-is) (λ i. record {
-          answer = accepted (record { steps = is .steps i; hits = is .hits i; mark = is .mark i; ending = is .ending i });
+          answer = accepted (record { steps = is .steps i; occurrences = is .occurrences i; mark = is .mark i; ending = is .ending i });
           list = h .list-is i;
           mark = is .mark i;
         })

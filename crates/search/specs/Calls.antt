@@ -50,7 +50,7 @@ markOf s (Refused r) = s
 -- "The places that a call wrote are the first cells of its position list as they stand when it returns, as many as the
 -- hits in its answer. A refused call wrote no place"
 abbrev pub placesOf : Outcome → List ℕ → List ℕ
-placesOf (Accepted a) list = take (a .hits) list
+placesOf (Accepted a) list = take (a .occurrences) list
 placesOf (Refused r) list = []
 
 -- a refused call "made no step"
@@ -72,7 +72,7 @@ Made t w s (c ∷ cs) =
 -- "The answer carries steps, hits written, the mark and, inside it, how the call stopped."
 pub record Carried : Type 0 where
   pub steps : ℕ
-  pub hits : ℕ
+  pub occurrences : ℕ
   pub mark : ℕ
   pub ending : Ending
 
@@ -85,7 +85,7 @@ pub record Result : Type 0 where
 -- what the calls gave, the first at the mark s
 abbrev pub answerOf : Outcome → Verdict Carried
 answerOf (Accepted a) =
-    accepted (record { steps = a .steps; hits = a .hits; mark = a .mark .at .0; ending = endingOf (a .stop) })
+    accepted (record { steps = a .steps; occurrences = a .occurrences; mark = a .mark .at .0; ending = endingOf (a .stop) })
 answerOf (Refused r) = refused (numberOfRefusal r)
 
 abbrev pub resultOf : ℕ → Call → Result
@@ -100,7 +100,7 @@ abbrev pub resultBy : Request → Verdict Run → Result
 resultBy q (refused number) = record { answer = refused number; list = q .list; mark = q .mark }
 resultBy q (accepted r) =
     record {
-      answer = accepted (record { steps = r .steps; hits = length (r .written); mark = r .mark; ending = r .ending });
+      answer = accepted (record { steps = r .steps; occurrences = length (r .written); mark = r .mark; ending = r .ending });
       list = r .written ++ drop (length (r .written)) (q .list);
       mark = r .mark;
     }

@@ -60,6 +60,6 @@ pub record Leaves (x : Method) (t : Packed) (w : Pattern) (s budget : ℕ) (befo
 -- the answer of a call by what its steps left
 pub record Tells (a : Answer) (at steps hits : ℕ) (cut : Bool) (E : ℕ) : Type 0 where
   pub steps-are : a .steps ≡ steps
-  pub hits-are : a .hits ≡ hits
+  pub hits-are : a .occurrences ≡ hits
   pub mark-is : a .mark .at .0 ≡ at
   pub ending-is : endingOf (a .stop) ≡ endingAt cut at E

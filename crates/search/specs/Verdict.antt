@@ -12,7 +12,7 @@ use Rattle.rules.specs.declared.Method.the-variants.{Hash}
 use Rattle.search.specs.declared.Outcome.{Outcome}
 use Rattle.search.specs.declared.Outcome.the-variants.{Accepted, Refused}
 use Rattle.search.specs.declared.Refusal.{Refusal}
-use Rattle.search.specs.declared.Refusal.the-variants.{TextTooLong, TextBytesMissing, PatternLength, PatternBytesMissing, PatternTooShort, MarkBeyondPlaces, ScratchTooShort}
+use Rattle.search.specs.declared.Refusal.the-variants.{TextTooLong, TextBytesMissing, PatternLength, PatternBytesMissing, PatternTooShort, BeyondEnd, ScratchTooShort}
 use Rattle.search.specs.declared.Stop.{Stop}
 use Rattle.search.specs.declared.Stop.the-variants.{Done, Full, Spent}
 use Rattle.rules.specs.Pattern.{Pattern}
@@ -125,7 +125,7 @@ numberOfRefusal TextBytesMissing = 2
 numberOfRefusal PatternLength = 3
 numberOfRefusal PatternBytesMissing = 4
 numberOfRefusal PatternTooShort = 5
-numberOfRefusal MarkBeyondPlaces = 6
+numberOfRefusal BeyondEnd = 6
 numberOfRefusal ScratchTooShort = 7
 
 -- the ending of each way to stop
@@ -137,7 +137,7 @@ endingOf Spent = spent
 -- "The answer carries steps, hits written, the mark and, inside it, how the call stopped."
 pub record Carries (a : Answer) (r : Run) : Type 0 where
   pub steps : a .steps ≡ r .steps
-  pub hits : a .hits ≡ length (r .written)
+  pub occurrences : a .occurrences ≡ length (r .written)
   pub mark : a .mark .at .0 ≡ r .mark
   pub ending : endingOf (a .stop) ≡ r .ending
 

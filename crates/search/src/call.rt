@@ -26,17 +26,17 @@ pub fn run(
     method: Method,
     text: &[u8],
     n: u32,
-    word: &[u8],
+    pattern: &[u8],
     m: u32,
     h: Head,
     cells: &[u64],
     budget: u32,
     list: &mut [u32],
 ) -> Left
-    requires { ⌜ Ready method (textOf (now text) n) (patternOf (now word) m) (now cells) ⌝ }
-    requires { ⌜ HeadOf (patternOf (now word) m) (h .bits) (h .cut) ⌝ }
-    requires { ⌜ mark .at .0 ≤ places (textOf (now text) n) (patternOf (now word) m) ⌝ }
-    ensures { λ r. ⌜ Ran method (textOf (now (text .entry)) n) (patternOf (now (word .entry)) m) (mark .at .0) budget (now (list .entry)) (r .mark .at .0) (r .steps) (r .hits) (r .full) (now (list .exit)) ⌝ }
+    requires { ⌜ Ready method (textOf (now text) n) (patternOf (now pattern) m) (now cells) ⌝ }
+    requires { ⌜ HeadOf (patternOf (now pattern) m) (h .bits) (h .cut) ⌝ }
+    requires { ⌜ mark .at .0 ≤ places (textOf (now text) n) (patternOf (now pattern) m) ⌝ }
+    ensures { λ r. ⌜ Ran method (textOf (now (text .entry)) n) (patternOf (now (pattern .entry)) m) (mark .at .0) budget (now (list .entry)) (r .mark .at .0) (r .steps) (r .hits) (r .full) (now (list .exit)) ⌝ }
 {
     let end = n - m + 1;
     let from = mark.at;
@@ -44,7 +44,7 @@ pub fn run(
     let mut steps = 0u32;
     let mut hits = 0usize;
     while at < end && steps < budget {
-        let one = Mark { at: Place(at) }.step(method, text, n, word, m, h, cells, list, hits);
+        let one = Mark { at: Place(at) }.step(method, text, n, pattern, m, h, cells, list, hits);
         let moved = one.mark;
         hits = one.hits;
         steps += 1;
@@ -60,7 +60,7 @@ pub fn run(
             method,
             text,
             n,
-            word,
+            pattern,
             m,
             h,
             cells,
@@ -101,7 +101,7 @@ fn answer(left: Left, end: u32) -> Answer
     if left.full {
         return Answer {
             steps: left.steps,
-            hits: hits,
+            occurrences: hits,
             mark: mark,
             stop: Stop::Full(at),
         };
@@ -109,14 +109,14 @@ fn answer(left: Left, end: u32) -> Answer
     if at.0 == end {
         return Answer {
             steps: left.steps,
-            hits: hits,
+            occurrences: hits,
             mark: mark,
             stop: Stop::Done,
         };
     }
     Answer {
         steps: left.steps,
-        hits: hits,
+        occurrences: hits,
         mark: mark,
         stop: Stop::Spent,
     }
@@ -128,25 +128,25 @@ pub fn accepted(
     method: Method,
     text: &[u8],
     n: u32,
-    word: &[u8],
+    pattern: &[u8],
     m: u32,
     budget: u32,
     list: &mut [u32],
     scratch: &mut [u64],
 ) -> Answer
-    requires { ⌜ Allowed method (textOf (now text) n) (patternOf (now word) m) (mark .at .0) (now scratch) ⌝ }
-    ensures { λ r. ⌜ Leaves method (textOf (now (text .entry)) n) (patternOf (now (word .entry)) m) (mark .at .0) budget (now (list .entry)) (now (scratch .entry)) r (now (list .exit)) (now (scratch .exit)) ⌝ }
+    requires { ⌜ Allowed method (textOf (now text) n) (patternOf (now pattern) m) (mark .at .0) (now scratch) ⌝ }
+    ensures { λ r. ⌜ Leaves method (textOf (now (text .entry)) n) (patternOf (now (pattern .entry)) m) (mark .at .0) budget (now (list .entry)) (now (scratch .entry)) r (now (list .exit)) (now (scratch .exit)) ⌝ }
 {
     if n < m {
         return Answer {
             steps: 0,
-            hits: 0,
+            occurrences: 0,
             mark: mark,
             stop: Stop::Done,
         };
     }
-    methods::prepare(method, word, m, scratch);
-    let h = compare::head_of(word, m);
-    let left = run(mark, method, text, n, word, m, h, scratch, budget, list);
+    methods::prepare(method, pattern, m, scratch);
+    let h = compare::head_of(pattern, m);
+    let left = run(mark, method, text, n, pattern, m, h, scratch, budget, list);
     answer(left, n - m + 1)
 }

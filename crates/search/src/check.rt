@@ -38,13 +38,13 @@ pub fn places(n: u64, m: u64) -> u64
 pub fn check(
     text: &[u8],
     n: u64,
-    word: &[u8],
+    pattern: &[u8],
     m: u64,
     method: Method,
     mark: Place,
     scratch: &[u64],
 ) -> Checked
-    ensures { λ r. ⌜ checkOf r ≡ checkVerdict (textOf (now (text .entry)) n) (patternOf (now (word .entry)) m) method (mark .0) (now (scratch .entry)) ⌝ }
+    ensures { λ r. ⌜ checkOf r ≡ checkVerdict (textOf (now (text .entry)) n) (patternOf (now (pattern .entry)) m) method (mark .0) (now (scratch .entry)) ⌝ }
 {
     if 1073741824 < n {
         return Checked::Refused(Refusal::TextTooLong);
@@ -58,14 +58,14 @@ pub fn check(
     if 2048 < m {
         return Checked::Refused(Refusal::PatternLength);
     }
-    if (word.len() as u64) < bits::bytes_for(m) {
+    if (pattern.len() as u64) < bits::bytes_for(m) {
         return Checked::Refused(Refusal::PatternBytesMissing);
     }
     if too_short(method, m) {
         return Checked::Refused(Refusal::PatternTooShort);
     }
     if places(n, m) < mark.0 as u64 {
-        return Checked::Refused(Refusal::MarkBeyondPlaces);
+        return Checked::Refused(Refusal::BeyondEnd);
     }
     if scratch.len() < 4224 {
         return Checked::Refused(Refusal::ScratchTooShort);

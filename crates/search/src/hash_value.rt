@@ -11,9 +11,9 @@ pub enum HashAnswer {
     Refused(Refusal),
 }
 
-// H(B) of the first m bits of the word, with refusals 3, 4 and 5.
-pub fn hash_value(word: &[u8], m: u64, value: u8) -> HashAnswer
-    ensures { λ r. ⌜ hashAnswer r ≡ hashVerdict (patternOf (now (word .entry)) m) value ⌝ }
+// H(B) of the first m bits of the pattern, with refusals 3, 4 and 5.
+pub fn hash_value(pattern: &[u8], m: u64, value: u8) -> HashAnswer
+    ensures { λ r. ⌜ hashAnswer r ≡ hashVerdict (patternOf (now (pattern .entry)) m) value ⌝ }
 {
     if m == 0 {
         return HashAnswer::Refused(Refusal::PatternLength);
@@ -21,11 +21,11 @@ pub fn hash_value(word: &[u8], m: u64, value: u8) -> HashAnswer
     if 2048 < m {
         return HashAnswer::Refused(Refusal::PatternLength);
     }
-    if (word.len() as u64) < bits::bytes_for(m) {
+    if (pattern.len() as u64) < bits::bytes_for(m) {
         return HashAnswer::Refused(Refusal::PatternBytesMissing);
     }
     if m < 8 {
         return HashAnswer::Refused(Refusal::PatternTooShort);
     }
-    HashAnswer::Value(value::hash_of(word, m as u32, value))
+    HashAnswer::Value(value::hash_of(pattern, m as u32, value))
 }

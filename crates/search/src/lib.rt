@@ -12,7 +12,7 @@ ghost use mathlib.Core.Path.{_≡_};
 ghost use Prim.Native.Nat.{_≤_, _<_};
 ghost use lib.ListN.{length};
 ghost use Rattle.rules.specs.Occurrence.{places};
-ghost use Rattle.search.specs.Verdict.{Searched};
+ghost use Rattle.search.specs.Verdict.{numberOfRefusal, Searched};
 ghost use Rattle.matcher.specs.Progress.{textOf, patternOf, HeadOf, Ready, Stepped};
 
 // How far a search has come: the first place that is not yet decided.
@@ -30,20 +30,37 @@ pub enum Stop {
 // The answer of an accepted call.
 pub struct Answer {
     pub steps: u32,
-    pub hits: u32,
+    pub occurrences: u32,
     pub mark: Mark,
     pub stop: Stop,
 }
 
-// Why a call was refused; specs/Verdict.antt gives each case its number.
+// Why a call was refused.
 pub enum Refusal {
     TextTooLong,
     TextBytesMissing,
     PatternLength,
     PatternBytesMissing,
     PatternTooShort,
-    MarkBeyondPlaces,
+    BeyondEnd,
     ScratchTooShort,
+}
+
+impl Refusal {
+    // Document 01's number of the refusal.
+    pub fn number(self) -> u32
+        ensures { λ r. ⌜ r ≡ numberOfRefusal self ⌝ }
+    {
+        match self {
+            Refusal::TextTooLong => 1,
+            Refusal::TextBytesMissing => 2,
+            Refusal::PatternLength => 3,
+            Refusal::PatternBytesMissing => 4,
+            Refusal::PatternTooShort => 5,
+            Refusal::BeyondEnd => 6,
+            Refusal::ScratchTooShort => 7,
+        }
+    }
 }
 
 // What a call gives back.
@@ -74,17 +91,17 @@ impl Mark {
         self,
         text: &[u8],
         n: u64,
-        word: &[u8],
+        pattern: &[u8],
         m: u64,
         method: Method,
         budget: u32,
         list: &mut [u32],
         scratch: &mut [u64],
     ) -> Outcome
-        ensures { λ r. ⌜ Searched (record { text = textOf (now (text .entry)) n; pattern = patternOf (now (word .entry)) m; method = method; mark = self .at .0; budget = budget; list = now (list .entry); scratch = now (scratch .entry) }) r (now (list .exit)) (now (scratch .exit)) ⌝ }
+        ensures { λ r. ⌜ Searched (record { text = textOf (now (text .entry)) n; pattern = patternOf (now (pattern .entry)) m; method = method; mark = self .at .0; budget = budget; list = now (list .entry); scratch = now (scratch .entry) }) r (now (list .exit)) (now (scratch .exit)) ⌝ }
     {
         let at = self.at;
-        let checked = check::check(text, n, word, m, method, at, scratch);
+        let checked = check::check(text, n, pattern, m, method, at, scratch);
         match checked {
             Checked::Refused(why) => Outcome::Refused(why),
             Checked::Passed => Outcome::Accepted(call::accepted(
@@ -92,7 +109,7 @@ impl Mark {
                 method,
                 text,
                 n as u32,
-                word,
+                pattern,
                 m as u32,
                 budget,
                 list,
@@ -107,20 +124,20 @@ impl Mark {
         method: Method,
         text: &[u8],
         n: u32,
-        word: &[u8],
+        pattern: &[u8],
         m: u32,
         h: Head,
         cells: &[u64],
         list: &mut [u32],
         had: usize,
     ) -> Step
-        requires { ⌜ Ready method (textOf (now text) n) (patternOf (now word) m) (now cells) ⌝ }
-        requires { ⌜ HeadOf (patternOf (now word) m) (h .bits) (h .cut) ⌝ }
-        requires { ⌜ (self .at .0 < places (textOf (now text) n) (patternOf (now word) m)) × (had ≤ length (now list)) ⌝ }
-        ensures { λ r. ⌜ Stepped method (textOf (now (text .entry)) n) (patternOf (now (word .entry)) m) (self .at .0) (now (list .entry)) had (r .mark .at .0) (r .hits) (r .full) (now (list .exit)) ⌝ }
+        requires { ⌜ Ready method (textOf (now text) n) (patternOf (now pattern) m) (now cells) ⌝ }
+        requires { ⌜ HeadOf (patternOf (now pattern) m) (h .bits) (h .cut) ⌝ }
+        requires { ⌜ (self .at .0 < places (textOf (now text) n) (patternOf (now pattern) m)) × (had ≤ length (now list)) ⌝ }
+        ensures { λ r. ⌜ Stepped method (textOf (now (text .entry)) n) (patternOf (now (pattern .entry)) m) (self .at .0) (now (list .entry)) had (r .mark .at .0) (r .hits) (r .full) (now (list .exit)) ⌝ }
     {
         let s = self.at;
-        let found = methods::step(method, text, n, word, m, h, cells, s, list, had);
+        let found = methods::step(method, text, n, pattern, m, h, cells, s, list, had);
         let at = found.at;
         Step {
             mark: Mark { at: at },

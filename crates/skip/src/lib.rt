@@ -49,12 +49,12 @@ fn clear(cells: &mut [u64])
 
 // Enters k indices from j on, rising, each at the head of its chain: the bytes that the pattern shows there begin one bit
 // after the other in one load.
-fn enter(word: &[u8], m: u32, j: u32, k: u32, cells: &mut [u64])
+fn enter(pattern: &[u8], m: u32, j: u32, k: u32, cells: &mut [u64])
     requires { ⌜ (j + k ≤ m) × (m ≤ 2048) × (k ≤ 57) × (256 + m ≤ length (now cells)) ⌝ }
-    requires { ⌜ Filled (patternOf (now word) m) (now cells) j (now cells) ⌝ }
-    ensures { λ _. ⌜ Filled (patternOf (now (word .entry)) m) (now (cells .entry)) (j + k) (now (cells .exit)) ⌝ }
+    requires { ⌜ Filled (patternOf (now pattern) m) (now cells) j (now cells) ⌝ }
+    ensures { λ _. ⌜ Filled (patternOf (now (pattern .entry)) m) (now (cells .entry)) (j + k) (now (cells .exit)) ⌝ }
 {
-    let mut x = load::word_at(word, Place(j));
+    let mut x = load::word_at(pattern, Place(j));
     let mut r = 0u32;
     while r < k {
         let v = (x >> 56) as usize;
@@ -67,27 +67,27 @@ fn enter(word: &[u8], m: u32, j: u32, k: u32, cells: &mut [u64])
 }
 
 // Enters the indices of the places of a step from a mark 8 b + 1 on, 56 by one load.
-pub fn prepare(word: &[u8], m: u32, cells: &mut [u64])
-    requires { ⌜ GoodPattern Method.Skip (patternOf (now word) m) ⌝ }
+pub fn prepare(pattern: &[u8], m: u32, cells: &mut [u64])
+    requires { ⌜ GoodPattern Method.Skip (patternOf (now pattern) m) ⌝ }
     requires { ⌜ cellsFor Method.Skip m ≤ length (now cells) ⌝ }
-    ensures { λ _. ⌜ Prepared Method.Skip (patternOf (now (word .entry)) m) (now (cells .entry)) (now (cells .exit)) ⌝ }
+    ensures { λ _. ⌜ Prepared Method.Skip (patternOf (now (pattern .entry)) m) (now (cells .entry)) (now (cells .exit)) ⌝ }
 {
     clear(cells);
     let count = indices(m);
     let mut j = 0u32;
     while j + 56 < count {
-        enter(word, m, j, 56, cells);
+        enter(pattern, m, j, 56, cells);
         j += 56;
     }
-    enter(word, m, j, count - j, cells);
+    enter(pattern, m, j, count - j, cells);
 }
 
 // The link to try first for the places from index k - 1 down: the head of v's chain without the indices from k on. An index
 // that is not chained is tried whatever it shows.
-fn first_link(word: &[u8], m: u32, cells: &[u64], v: u8, k: u32) -> u64
-    requires { ⌜ SkipTables (patternOf (now word) m) (now cells) ⌝ }
+fn first_link(pattern: &[u8], m: u32, cells: &[u64], v: u8, k: u32) -> u64
+    requires { ⌜ SkipTables (patternOf (now pattern) m) (now cells) ⌝ }
     requires { ⌜ (256 + m ≤ length (now cells)) × (k + 7 ≤ m) × (15 ≤ m) × (m ≤ 2048) ⌝ }
-    ensures { λ r. ⌜ (r ≤ k) × (lastShown (patternOf (now (word .entry)) m) v k ≤ r) × (r ≤ chained m → lastShown (patternOf (now (word .entry)) m) v r ≡ r) ⌝ }
+    ensures { λ r. ⌜ (r ≤ k) × (lastShown (patternOf (now (pattern .entry)) m) v k ≤ r) × (r ≤ chained m → lastShown (patternOf (now (pattern .entry)) m) v r ≡ r) ⌝ }
 {
     let high = k as u64;
     if indices(m) < k {
@@ -101,11 +101,11 @@ fn first_link(word: &[u8], m: u32, cells: &[u64], v: u8, k: u32) -> u64
 }
 
 // The link to try after j.
-fn next_link(word: &[u8], m: u32, cells: &[u64], v: u8, j: u64) -> u64
-    requires { ⌜ SkipTables (patternOf (now word) m) (now cells) ⌝ }
+fn next_link(pattern: &[u8], m: u32, cells: &[u64], v: u8, j: u64) -> u64
+    requires { ⌜ SkipTables (patternOf (now pattern) m) (now cells) ⌝ }
     requires { ⌜ (256 + m ≤ length (now cells)) × (0 < j) × (j + 7 ≤ m) × (15 ≤ m) × (m ≤ 2048) ⌝ }
-    requires { ⌜ (j ≤ chained m → lastShown (patternOf (now word) m) v j ≡ j) ⌝ }
-    ensures { λ r. ⌜ (r < j) × (lastShown (patternOf (now (word .entry)) m) v (j - 1) ≤ r) × (r ≤ chained m → lastShown (patternOf (now (word .entry)) m) v r ≡ r) ⌝ }
+    requires { ⌜ (j ≤ chained m → lastShown (patternOf (now pattern) m) v j ≡ j) ⌝ }
+    ensures { λ r. ⌜ (r < j) × (lastShown (patternOf (now (pattern .entry)) m) v (j - 1) ≤ r) × (r ≤ chained m → lastShown (patternOf (now (pattern .entry)) m) v r ≡ r) ⌝ }
 {
     let count = indices(m) as u64;
     if j <= count {
@@ -121,7 +121,7 @@ fn next_link(word: &[u8], m: u32, cells: &[u64], v: u8, j: u64) -> u64
 pub fn step(
     text: &[u8],
     n: u32,
-    word: &[u8],
+    pattern: &[u8],
     m: u32,
     h: Head,
     cells: &[u64],
@@ -129,10 +129,10 @@ pub fn step(
     list: &mut [u32],
     had: usize,
 ) -> Found
-    requires { ⌜ Ready Method.Skip (textOf (now text) n) (patternOf (now word) m) (now cells) ⌝ }
-    requires { ⌜ HeadOf (patternOf (now word) m) (h .bits) (h .cut) ⌝ }
-    requires { ⌜ (s .0 < places (textOf (now text) n) (patternOf (now word) m)) × (had ≤ length (now list)) ⌝ }
-    ensures { λ r. ⌜ Stepped Method.Skip (textOf (now (text .entry)) n) (patternOf (now (word .entry)) m) (s .0) (now (list .entry)) had (r .at .0) (r .hits) (r .full) (now (list .exit)) ⌝ }
+    requires { ⌜ Ready Method.Skip (textOf (now text) n) (patternOf (now pattern) m) (now cells) ⌝ }
+    requires { ⌜ HeadOf (patternOf (now pattern) m) (h .bits) (h .cut) ⌝ }
+    requires { ⌜ (s .0 < places (textOf (now text) n) (patternOf (now pattern) m)) × (had ≤ length (now list)) ⌝ }
+    ensures { λ r. ⌜ Stepped Method.Skip (textOf (now (text .entry)) n) (patternOf (now (pattern .entry)) m) (s .0) (now (list .entry)) had (r .at .0) (r .hits) (r .full) (now (list .exit)) ⌝ }
 {
     let at = s.0;
     let b = last_byte(s, m);
@@ -141,11 +141,11 @@ pub fn step(
     let low = top - stop;
     let byte = b.0;
     let v = text[byte];
-    let mut j = first_link(word, m, cells, v, top - at);
+    let mut j = first_link(pattern, m, cells, v, top - at);
     let mut hits = had;
     while (low as u64) < j {
         let a = (top as u64 - j) as u32;
-        if compare::stands(text, word, m, Place(a)) {
+        if compare::stands(text, pattern, m, Place(a)) {
             if list.len() <= hits {
                 return Found {
                     at: Place(a),
@@ -156,7 +156,7 @@ pub fn step(
             list[hits] = a;
             hits += 1;
         }
-        j = next_link(word, m, cells, v, j);
+        j = next_link(pattern, m, cells, v, j);
     }
     Found {
         at: Place(stop),
@@ -171,7 +171,7 @@ pub fn step(
 fn chain(
     text: &[u8],
     n: u32,
-    word: &[u8],
+    pattern: &[u8],
     m: u32,
     h: Head,
     cells: &[u64],
@@ -179,10 +179,10 @@ fn chain(
     list: &mut [u32],
     had: usize,
 ) -> Found
-    requires { ⌜ Ready Method.Skip (textOf (now text) n) (patternOf (now word) m) (now cells) ⌝ }
-    requires { ⌜ HeadOf (patternOf (now word) m) (h .bits) (h .cut) ⌝ }
+    requires { ⌜ Ready Method.Skip (textOf (now text) n) (patternOf (now pattern) m) (now cells) ⌝ }
+    requires { ⌜ HeadOf (patternOf (now pattern) m) (h .bits) (h .cut) ⌝ }
     requires { ⌜ (chained m ≤ 8 * b .0) × (8 * b .0 + 8 ≤ n) × (had ≤ length (now list)) ⌝ }
-    ensures { λ r. ⌜ Stepped Method.Skip (textOf (now (text .entry)) n) (patternOf (now (word .entry)) m) (8 * b .0 + 1 - chained m) (now (list .entry)) had (r .at .0) (r .hits) (r .full) (now (list .exit)) ⌝ }
+    ensures { λ r. ⌜ Stepped Method.Skip (textOf (now (text .entry)) n) (patternOf (now (pattern .entry)) m) (8 * b .0 + 1 - chained m) (now (list .entry)) had (r .at .0) (r .hits) (r .full) (now (list .exit)) ⌝ }
 {
     let byte = b.0;
     let top = b.place().0 as usize + 1;
@@ -194,7 +194,7 @@ fn chain(
         if end <= p {
             break;
         }
-        if compare::same(text, word, m, h, Place(p)) {
+        if compare::same(text, pattern, m, h, Place(p)) {
             if list.len() <= written {
                 return Found {
                     at: Place(p),
@@ -220,7 +220,7 @@ fn chain(
 pub fn advance(
     text: &[u8],
     n: u32,
-    word: &[u8],
+    pattern: &[u8],
     m: u32,
     h: Head,
     cells: &[u64],
@@ -229,10 +229,10 @@ pub fn advance(
     list: &mut [u32],
     had: usize,
 ) -> Advance
-    requires { ⌜ Ready Method.Skip (textOf (now text) n) (patternOf (now word) m) (now cells) ⌝ }
-    requires { ⌜ HeadOf (patternOf (now word) m) (h .bits) (h .cut) ⌝ }
-    requires { ⌜ (s .0 ≤ places (textOf (now text) n) (patternOf (now word) m)) × (had ≤ length (now list)) ⌝ }
-    ensures { λ r. ⌜ Advanced Method.Skip (textOf (now (text .entry)) n) (patternOf (now (word .entry)) m) (s .0) budget (now (list .entry)) had (r .at .0) (r .steps) (r .hits) (r .full) (now (list .exit)) ⌝ }
+    requires { ⌜ Ready Method.Skip (textOf (now text) n) (patternOf (now pattern) m) (now cells) ⌝ }
+    requires { ⌜ HeadOf (patternOf (now pattern) m) (h .bits) (h .cut) ⌝ }
+    requires { ⌜ (s .0 ≤ places (textOf (now text) n) (patternOf (now pattern) m)) × (had ≤ length (now list)) ⌝ }
+    ensures { λ r. ⌜ Advanced Method.Skip (textOf (now (text .entry)) n) (patternOf (now (pattern .entry)) m) (s .0) budget (now (list .entry)) had (r .at .0) (r .steps) (r .hits) (r .full) (now (list .exit)) ⌝ }
 {
     let end = n - m + 1;
     let stride = Place(indices(m)).byte().0;
@@ -249,7 +249,7 @@ pub fn advance(
     let mut steps = 0u32;
     let mut hits = had;
     while at < end && steps < budget {
-        let found = chain(text, n, word, m, h, cells, b, list, hits);
+        let found = chain(text, n, pattern, m, h, cells, b, list, hits);
         hits = found.hits;
         steps += 1;
         if found.full {

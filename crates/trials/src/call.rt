@@ -10,7 +10,6 @@ use draws::packed::part;
 use search::Mark;
 use search::Method;
 use search::Outcome;
-use search::Refusal;
 use search::Stop;
 
 // Every step that there is.
@@ -19,13 +18,13 @@ pub(crate) const ALL: usize = 4294967295;
 // The cells of scratch that there are: a call is lent 4,224, or some more, or too few.
 pub(crate) const SCRATCH: usize = 4230;
 
-// What a call is given: n bits of text in `text` bytes, m bits of pattern in `word` bytes, the method by its number, mark
+// What a call is given: n bits of text in `text` bytes, m bits of pattern in `pattern` bytes, the method by its number, mark
 // and budget, and how many cells of the list and of the scratch are lent.
 pub(crate) struct Call {
     pub n: usize,
     pub text: usize,
     pub m: usize,
-    pub word: usize,
+    pub pattern: usize,
     pub way: usize,
     pub mark: usize,
     pub budget: usize,
@@ -42,18 +41,6 @@ fn method_of(way: usize) -> Method {
     }
 }
 
-pub(crate) fn number_of(why: Refusal) -> usize {
-    match why {
-        Refusal::TextTooLong => 1,
-        Refusal::TextBytesMissing => 2,
-        Refusal::PatternLength => 3,
-        Refusal::PatternBytesMissing => 4,
-        Refusal::PatternTooShort => 5,
-        Refusal::MarkBeyondPlaces => 6,
-        Refusal::ScratchTooShort => 7,
-    }
-}
-
 // The search's call.
 fn made(c: Call, s: &[u8], list: &mut [u32], scratch: &mut [u64]) -> Outcome {
     let room = least_of(c.room, list.len());
@@ -64,7 +51,7 @@ fn made(c: Call, s: &[u8], list: &mut [u32], scratch: &mut [u64]) -> Outcome {
     at.search(
         part(s, TEXT, c.text),
         c.n as u64,
-        part(s, 0, c.word),
+        part(s, 0, c.pattern),
         c.m as u64,
         method_of(c.way),
         small(c.budget),
@@ -91,11 +78,11 @@ fn told(outcome: Outcome, want: Run) -> bool {
             let stop = a.stop;
             (want.refusal == 0)
                 & (a.steps == small(want.steps))
-                & (a.hits == small(want.hits))
+                & (a.occurrences == small(want.hits))
                 & (place.0 == small(want.mark))
                 & (stopped(stop, place.0) == want.stop)
         }
-        Outcome::Refused(why) => want.refusal == number_of(why),
+        Outcome::Refused(why) => why.number() == small(want.refusal),
     }
 }
 

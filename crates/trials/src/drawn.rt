@@ -132,7 +132,7 @@ fn whole(way: usize, x: usize, s: &mut [u8]) -> Call {
         n: n,
         text: plus(ceiling(n), draw(x, 11, 3)),
         m: m,
-        word: plus(ceiling(m), draw(x, 12, 3)),
+        pattern: plus(ceiling(m), draw(x, 12, 3)),
         way: way,
         mark: 0,
         budget: ALL,
@@ -181,7 +181,7 @@ fn row(edges: &[usize], i: usize) -> Call {
         n: n,
         text: i / 50 % 4,
         m: m,
-        word: entry(edges, 15 + i / 200 % 5),
+        pattern: entry(edges, 15 + i / 200 % 5),
         way: i / 1000 % 4,
         mark: minus(
             plus(naive::places(n, m), entry(edges, 20 + i / 4000 % 4)),

@@ -48,7 +48,7 @@ pub(crate) fn refusal(c: Call) -> usize {
     if c.m < shortest(c.way) {
         why = 5;
     }
-    if c.word < ceiling(c.m) {
+    if c.pattern < ceiling(c.m) {
         why = 4;
     }
     if (c.m == 0) | (2048 < c.m) {

@@ -37,9 +37,9 @@ const PAIRS: [Row; 9] = [
         0,
         0,
     ),
-    // word 111 in 11111
+    // the pattern 111 in 11111
     Row(0b11111, 5, 0b111, 3, 0, 1, 0, 0),
-    // n = 0, and 200 zero bits, word 1
+    // n = 0, and 200 zero bits, with the pattern 1
     Row(0, 0, 0b1, 1, 0, 0, 0, 0),
     Row(0, 200, 0b1, 1, 0, 0, 0, 0),
     // occurrences that would use the zeros after the last bit
@@ -134,7 +134,7 @@ fn search(i: usize, x: usize, s: &mut [u8; 813], list: &mut [u32; 4400]) -> bool
         n: p.1,
         text: 32,
         m: p.3,
-        word: 8,
+        pattern: 8,
         way: r.1,
         mark: 0,
         budget: r.2,
@@ -177,7 +177,7 @@ fn refusal(i: usize, x: usize, s: &[u8], list: &mut [u32]) -> bool {
         n: r.1,
         text: r.2,
         m: r.3,
-        word: r.4,
+        pattern: r.4,
         way: r.5,
         mark: r.6,
         budget: ALL,

@@ -1,7 +1,6 @@
 // Eight bits by themselves and H by itself, with their refusals. Both have the rows of the table that a search has, so
 // that the search's own check serves, of a call whose other conditions do not hold.
 use crate::call::Call;
-use crate::call::number_of;
 use crate::drawn::pattern_length;
 use crate::drawn::repeat;
 use crate::naive;
@@ -21,14 +20,6 @@ use draws::packed::TEXT_BIT;
 use search::hash_value;
 use search::hash_value::HashAnswer;
 
-fn eight_number(why: eight::Refusal) -> usize {
-    match why {
-        eight::Refusal::TooLong => 1,
-        eight::Refusal::FewBytes => 2,
-        eight::Refusal::PastEnd => 6,
-    }
-}
-
 // Bit counts about the greatest one, once in 50, or small.
 const COUNTS: [usize; 4] = [1073741820, 9, 0, 101];
 
@@ -38,7 +29,7 @@ fn eight_from(n: usize, a: usize, p: usize, s: &mut [u8; 813]) -> bool {
         n: n,
         text: a,
         m: 8,
-        word: 1,
+        pattern: 1,
         way: 0,
         mark: plus(p, 1),
         budget: 0,
@@ -52,7 +43,7 @@ fn eight_from(n: usize, a: usize, p: usize, s: &mut [u8; 813]) -> bool {
             return (why == 0) & packed::agree(s, 0, plus(TEXT_BIT, p), 8);
         }
         Eight::Refused(r) => {
-            return why == eight_number(r);
+            return r.number() == small(why);
         }
     }
 }
@@ -79,7 +70,7 @@ pub(crate) fn hash(s: &[u8], m: usize, b: usize) -> bool {
         n: 0,
         text: 0,
         m: m,
-        word: b,
+        pattern: b,
         way: 1,
         mark: 0,
         budget: 0,
@@ -89,7 +80,7 @@ pub(crate) fn hash(s: &[u8], m: usize, b: usize) -> bool {
     let got = hash_value::hash_value(packed::part(s, 0, b), m as u64, packed::get8(s, TEXT));
     match got {
         HashAnswer::Value(d) => (why == 0) & (d == small(naive::least(s, m, TEXT_BIT, 0))),
-        HashAnswer::Refused(r) => why == number_of(r),
+        HashAnswer::Refused(r) => r.number() == small(why),
     }
 }
 

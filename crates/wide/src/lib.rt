@@ -32,9 +32,9 @@ struct Pair {
 
 // Flag 0 of each of the eight window bits from q on, the first bit highest. A bit of the pattern leaves it standing where
 // the window bit is the same; after the pattern every bit does.
-fn entering(word: &[u8], m: u32, q: u32) -> Pair
-    requires { ⌜ (bytesFor m ≤ length (now word)) × StartsByte q × (q ≤ 4096) ⌝ }
-    ensures { λ r. ⌜ Enters (patternOf (now (word .entry)) m) 0 q (r .zero) × Enters (patternOf (now (word .entry)) m) 1 q (r .one) ⌝ }
+fn entering(pattern: &[u8], m: u32, q: u32) -> Pair
+    requires { ⌜ (bytesFor m ≤ length (now pattern)) × StartsByte q × (q ≤ 4096) ⌝ }
+    ensures { λ r. ⌜ Enters (patternOf (now (pattern .entry)) m) 0 q (r .zero) × Enters (patternOf (now (pattern .entry)) m) 1 q (r .one) ⌝ }
 {
     if m <= q {
         return Pair {
@@ -43,7 +43,7 @@ fn entering(word: &[u8], m: u32, q: u32) -> Pair
         };
     }
     let at = Place(q).byte().0;
-    let b = word[at] as u64;
+    let b = pattern[at] as u64;
     let mut pad = 0u64;
     if m < q + 8 {
         pad = 255 >> (m - q);
@@ -73,16 +73,16 @@ fn enter(q: u32, k: usize, zero: u64, one: u64, y: u64, x: u64, cells: &mut [u64
 }
 
 // The table, eight window bits at a time. The last ones, fewer than eight, lie after the pattern.
-pub fn prepare(word: &[u8], m: u32, cells: &mut [u64])
-    requires { ⌜ GoodPattern Method.Wide (patternOf (now word) m) ⌝ }
+pub fn prepare(pattern: &[u8], m: u32, cells: &mut [u64])
+    requires { ⌜ GoodPattern Method.Wide (patternOf (now pattern) m) ⌝ }
     requires { ⌜ cellsFor Method.Wide m ≤ length (now cells) ⌝ }
-    ensures { λ _. ⌜ Prepared Method.Wide (patternOf (now (word .entry)) m) (now (cells .entry)) (now (cells .exit)) ⌝ }
+    ensures { λ _. ⌜ Prepared Method.Wide (patternOf (now (pattern .entry)) m) (now (cells .entry)) (now (cells .exit)) ⌝ }
 {
     let mut zero = ALL;
     let mut one = ALL;
     let mut q = 0u32;
     while q + 8 <= m + 63 {
-        let new = entering(word, m, q);
+        let new = entering(pattern, m, q);
         enter(q, 8, zero, one, new.zero, new.one, cells);
         zero = (zero << 8) | new.zero;
         one = (one << 8) | new.one;
@@ -206,7 +206,7 @@ fn next_mark(text: &[u8], n: u32, m: u32, zero: u32, one: u32, s: Place) -> Plac
 fn settle(
     text: &[u8],
     n: u32,
-    word: &[u8],
+    pattern: &[u8],
     m: u32,
     h: Head,
     s: Place,
@@ -215,11 +215,11 @@ fn settle(
     list: &mut [u32],
     had: usize,
 ) -> Found
-    requires { ⌜ (0 < m) × (m ≤ 2048) × (n ≤ 2 ^ 30) × (s .0 < places (textOf (now text) n) (patternOf (now word) m)) × (had ≤ length (now list)) ⌝ }
-    requires { ⌜ HeadOf (patternOf (now word) m) (h .bits) (h .cut) ⌝ }
-    requires { ⌜ Flagged (textOf (now text) n) (patternOf (now word) m) (s .0) flags ⌝ }
-    requires { ⌜ to .0 ≡ next Method.Wide (textOf (now text) n) (patternOf (now word) m) (s .0) ⌝ }
-    ensures { λ r. ⌜ Stepped Method.Wide (textOf (now (text .entry)) n) (patternOf (now (word .entry)) m) (s .0) (now (list .entry)) had (r .at .0) (r .hits) (r .full) (now (list .exit)) ⌝ }
+    requires { ⌜ (0 < m) × (m ≤ 2048) × (n ≤ 2 ^ 30) × (s .0 < places (textOf (now text) n) (patternOf (now pattern) m)) × (had ≤ length (now list)) ⌝ }
+    requires { ⌜ HeadOf (patternOf (now pattern) m) (h .bits) (h .cut) ⌝ }
+    requires { ⌜ Flagged (textOf (now text) n) (patternOf (now pattern) m) (s .0) flags ⌝ }
+    requires { ⌜ to .0 ≡ next Method.Wide (textOf (now text) n) (patternOf (now pattern) m) (s .0) ⌝ }
+    ensures { λ r. ⌜ Stepped Method.Wide (textOf (now (text .entry)) n) (patternOf (now (pattern .entry)) m) (s .0) (now (list .entry)) had (r .at .0) (r .hits) (r .full) (now (list .exit)) ⌝ }
 {
     let mut at = s.0;
     let mut f = flags;
@@ -229,7 +229,7 @@ fn settle(
         let p = at + i;
         f = (f >> i) >> 1;
         at = p + 1;
-        if compare::same(text, word, m, h, Place(p)) {
+        if compare::same(text, pattern, m, h, Place(p)) {
             if list.len() <= hits {
                 return Found {
                     at: Place(p),
@@ -252,7 +252,7 @@ fn settle(
 pub fn step(
     text: &[u8],
     n: u32,
-    word: &[u8],
+    pattern: &[u8],
     m: u32,
     h: Head,
     cells: &[u64],
@@ -260,16 +260,16 @@ pub fn step(
     list: &mut [u32],
     had: usize,
 ) -> Found
-    requires { ⌜ Ready Method.Wide (textOf (now text) n) (patternOf (now word) m) (now cells) ⌝ }
-    requires { ⌜ HeadOf (patternOf (now word) m) (h .bits) (h .cut) ⌝ }
-    requires { ⌜ (s .0 < places (textOf (now text) n) (patternOf (now word) m)) × (had ≤ length (now list)) ⌝ }
-    ensures { λ r. ⌜ Stepped Method.Wide (textOf (now (text .entry)) n) (patternOf (now (word .entry)) m) (s .0) (now (list .entry)) had (r .at .0) (r .hits) (r .full) (now (list .exit)) ⌝ }
+    requires { ⌜ Ready Method.Wide (textOf (now text) n) (patternOf (now pattern) m) (now cells) ⌝ }
+    requires { ⌜ HeadOf (patternOf (now pattern) m) (h .bits) (h .cut) ⌝ }
+    requires { ⌜ (s .0 < places (textOf (now text) n) (patternOf (now pattern) m)) × (had ≤ length (now list)) ⌝ }
+    ensures { λ r. ⌜ Stepped Method.Wide (textOf (now (text .entry)) n) (patternOf (now (pattern .entry)) m) (s .0) (now (list .entry)) had (r .at .0) (r .hits) (r .full) (now (list .exit)) ⌝ }
 {
     let zero = move_of(m, cells, 0);
     let one = move_of(m, cells, 1);
     let to = next_mark(text, n, m, zero, one, s);
     let flags = scan(text, n, m, cells, s);
-    settle(text, n, word, m, h, s, to, flags, list, had)
+    settle(text, n, pattern, m, h, s, to, flags, list, had)
 }
 
 // Many steps with their list, until the budget is used up, a hit finds no free cell, or no place is left. Both moves are
@@ -277,7 +277,7 @@ pub fn step(
 pub fn advance(
     text: &[u8],
     n: u32,
-    word: &[u8],
+    pattern: &[u8],
     m: u32,
     h: Head,
     cells: &[u64],
@@ -286,10 +286,10 @@ pub fn advance(
     list: &mut [u32],
     had: usize,
 ) -> Advance
-    requires { ⌜ Ready Method.Wide (textOf (now text) n) (patternOf (now word) m) (now cells) ⌝ }
-    requires { ⌜ HeadOf (patternOf (now word) m) (h .bits) (h .cut) ⌝ }
-    requires { ⌜ (s .0 ≤ places (textOf (now text) n) (patternOf (now word) m)) × (had ≤ length (now list)) ⌝ }
-    ensures { λ r. ⌜ Advanced Method.Wide (textOf (now (text .entry)) n) (patternOf (now (word .entry)) m) (s .0) budget (now (list .entry)) had (r .at .0) (r .steps) (r .hits) (r .full) (now (list .exit)) ⌝ }
+    requires { ⌜ Ready Method.Wide (textOf (now text) n) (patternOf (now pattern) m) (now cells) ⌝ }
+    requires { ⌜ HeadOf (patternOf (now pattern) m) (h .bits) (h .cut) ⌝ }
+    requires { ⌜ (s .0 ≤ places (textOf (now text) n) (patternOf (now pattern) m)) × (had ≤ length (now list)) ⌝ }
+    ensures { λ r. ⌜ Advanced Method.Wide (textOf (now (text .entry)) n) (patternOf (now (pattern .entry)) m) (s .0) budget (now (list .entry)) had (r .at .0) (r .steps) (r .hits) (r .full) (now (list .exit)) ⌝ }
 {
     let end = n - m + 1;
     let zero = move_of(m, cells, 0);
@@ -303,7 +303,18 @@ pub fn advance(
     while (found.at.0 < end) & (steps < budget) & !found.full {
         let to = next_mark(text, n, m, zero, one, found.at);
         let flags = scan(text, n, m, cells, found.at);
-        found = settle(text, n, word, m, h, found.at, to, flags, list, found.hits);
+        found = settle(
+            text,
+            n,
+            pattern,
+            m,
+            h,
+            found.at,
+            to,
+            flags,
+            list,
+            found.hits,
+        );
         steps += 1;
     }
     let at = found.at;

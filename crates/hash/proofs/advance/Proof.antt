@@ -23,12 +23,12 @@ use Rattle.hash.proofs.advance.Statement.{statement}
 use Rattle.hash.proofs.advance.Tie as tie
 
 abbrev Inv-loop : tie.InvT-loop
-Inv-loop text n word m h cells budget list₀ had end back last at₀ steps₀ hits₀ list at steps hits =
-    let E = places (textOf text n) (patternOf word m) in
-    Advanced Hash (textOf text n) (patternOf word m) at₀ budget list₀ had (min at E) steps hits false list × (at ≤ n)
+Inv-loop text n pattern m h cells budget list₀ had end back last at₀ steps₀ hits₀ list at steps hits =
+    let E = places (textOf text n) (patternOf pattern m) in
+    Advanced Hash (textOf text n) (patternOf pattern m) at₀ budget list₀ had (min at E) steps hits false list × (at ≤ n)
 
 abbrev μ-loop : tie.MeasureT-loop
-μ-loop text n word m h cells budget list₀ had end back last at₀ steps₀ hits₀ list at steps hits = budget - steps
+μ-loop text n pattern m h cells budget list₀ had end back last at₀ steps₀ hits₀ list at steps hits = budget - steps
 
 -- the list keeps its length
 size : (c : tie.At-loop Inv-loop μ-loop) → length (c .loop .list) ≡ length (now (c .before .before .before .before .before .before .args .list))
@@ -37,58 +37,58 @@ size c = writing-length _ _ _ _ _ (c .loop .inv .0 .writing)
 -- what the cell of the eight bits holds
 cell : (c : tie.After-byte-inside2 Inv-loop μ-loop)
     → let a = c .before .before .before .before .before .before .before .before .before .args in
-    CellAt (textOf (now (a .text)) (a .n)) (patternOf (now (a .word)) (a .m)) (now (a .cells)) (c .before .before .before .loop .at) (c .byte-inside2 .result)
+    CellAt (textOf (now (a .text)) (a .n)) (patternOf (now (a .pattern)) (a .m)) (now (a .cells)) (c .before .before .before .loop .at) (c .byte-inside2 .result)
 cell c =
     let s = c .before .before .before .before .before .before .before .before .before in
     let a = s .args in
-    cell-at (textOf (now (a .text)) (a .n)) (patternOf (now (a .word)) (a .m)) (now (a .cells)) (s .pre .0) _ _ (c .byte-inside2 .ensures)
+    cell-at (textOf (now (a .text)) (a .n)) (patternOf (now (a .pattern)) (a .m)) (now (a .cells)) (s .pre .0) _ _ (c .byte-inside2 .ensures)
 
 -- the comparison's answer, of the text with its bit count
 stands : (c : tie.After-same Inv-loop μ-loop) (b : Bool) → c .same .result ≡ b
     → let a = c .before .before .before .before .before .before .before .before .before .before .before .args in
-    matches (textOf (now (a .text)) (a .n)) (patternOf (now (a .word)) (a .m)) (c .before .before .before .before .before .loop .at) ≡ b
+    matches (textOf (now (a .text)) (a .n)) (patternOf (now (a .pattern)) (a .m)) (c .before .before .before .before .before .loop .at) ≡ b
 stands c b e = compared _ _ _ _ _ b (c .same .ensures) e
 
 -- a step more from the place of this turn, which lies before the end
 more : (c : tie.Then1 Inv-loop μ-loop) (at hits : ℕ) (no-cell : Bool) (list : List ℕ)
     → let a = c .before .before .before .before .before .before .before .before .args in
     let l = c .before .before .loop in
-    Stepped Hash (textOf (now (a .text)) (a .n)) (patternOf (now (a .word)) (a .m)) (l .at) (l .list) (l .hits) at hits no-cell list
-    → Advanced Hash (textOf (now (a .text)) (a .n)) (patternOf (now (a .word)) (a .m)) (a .s .0) (a .budget) (now (a .list)) (a .had) at (l .steps + 1) hits no-cell list
+    Stepped Hash (textOf (now (a .text)) (a .n)) (patternOf (now (a .pattern)) (a .m)) (l .at) (l .list) (l .hits) at hits no-cell list
+    → Advanced Hash (textOf (now (a .text)) (a .n)) (patternOf (now (a .pattern)) (a .m)) (a .s .0) (a .budget) (now (a .list)) (a .had) at (l .steps + 1) hits no-cell list
 more c at hits no-cell list u =
     let s = c .before .before .before .before .before .before .before .before in
     let a = s .args in
     let l = c .before .before .loop in
-    let here : min (l .at) (places (textOf (now (a .text)) (a .n)) (patternOf (now (a .word)) (a .m))) ≡ l .at = omega arith in
-    advanced-step Hash (textOf (now (a .text)) (a .n)) (patternOf (now (a .word)) (a .m)) (a .s .0) (a .budget) (now (a .list)) (a .had) (l .at) (l .steps) (l .hits) (l .list) (s .pre .1 .1 .1) (rw here at (l .inv .0))
+    let here : min (l .at) (places (textOf (now (a .text)) (a .n)) (patternOf (now (a .pattern)) (a .m))) ≡ l .at = omega arith in
+    advanced-step Hash (textOf (now (a .text)) (a .n)) (patternOf (now (a .pattern)) (a .m)) (a .s .0) (a .budget) (now (a .list)) (a .had) (l .at) (l .steps) (l .hits) (l .list) (s .pre .1 .1 .1) (rw here at (l .inv .0))
     at hits no-cell list (omega arith) (omega (arith, ltb-true)) u
 
 -- whichever way the turn goes on, it makes one step
 one : (c : tie.Joined2 Inv-loop μ-loop)
     → let a = c .before .before .before .before .before .before .before .before .before .before .args in
     let l = c .before .before .before .before .loop in
-    Stepped Hash (textOf (now (a .text)) (a .n)) (patternOf (now (a .word)) (a .m)) (l .at) (l .list) (l .hits) (min (l .at + getD (now (a .cells)) (c .before .byte-inside2 .result) 0) (places (textOf (now (a .text)) (a .n)) (patternOf (now (a .word)) (a .m)))) (c .if2 .hits) false (c .if2 .list)
+    Stepped Hash (textOf (now (a .text)) (a .n)) (patternOf (now (a .pattern)) (a .m)) (l .at) (l .list) (l .hits) (min (l .at + getD (now (a .cells)) (c .before .byte-inside2 .result) 0) (places (textOf (now (a .text)) (a .n)) (patternOf (now (a .pattern)) (a .m)))) (c .if2 .hits) false (c .if2 .list)
 one c =
     let s = c .before .before .before .before .before .before .before .before .before .before in
     let a = s .args in
     let l = c .before .before .before .before .loop in
-    let inside : l .at < places (textOf (now (a .text)) (a .n)) (patternOf (now (a .word)) (a .m)) = omega arith in
+    let inside : l .at < places (textOf (now (a .text)) (a .n)) (patternOf (now (a .pattern)) (a .m)) = omega arith in
     let moved = sym (cell (c .before) .moves) in
     let fits : l .hits ≤ length (l .list) = omega (arith, size (c .before .before .before .before), l .inv .0 .writing .fits) in
     ⊎-elim
     (λ w.
     rw (w .4, w .5)
-    (stepped-hit (textOf (now (a .text)) (a .n)) (patternOf (now (a .word)) (a .m)) (now (a .cells)) (s .pre .0) (l .at) inside (l .list) (l .hits) _ moved
+    (stepped-hit (textOf (now (a .text)) (a .n)) (patternOf (now (a .pattern)) (a .m)) (now (a .cells)) (s .pre .0) (l .at) inside (l .list) (l .hits) _ moved
     (stands (record { before = record { before = c .before; if2 = w .0 }; same = w .1 }) _ (w .2 .taken)) (omega arith)))
     (⊎-elim
     (λ w.
     rw (w .3, w .4)
-    (stepped-miss (textOf (now (a .text)) (a .n)) (patternOf (now (a .word)) (a .m)) (now (a .cells)) (s .pre .0) (l .at) inside (l .list) (l .hits) _ moved
+    (stepped-miss (textOf (now (a .text)) (a .n)) (patternOf (now (a .pattern)) (a .m)) (now (a .cells)) (s .pre .0) (l .at) inside (l .list) (l .hits) _ moved
     (stands (record { before = record { before = c .before; if2 = w .0 }; same = w .1 }) _ (w .2 .left)) fits))
     (λ w.
     rw (w .1, w .2)
-    (stepped-miss (textOf (now (a .text)) (a .n)) (patternOf (now (a .word)) (a .m)) (now (a .cells)) (s .pre .0) (l .at) inside (l .list) (l .hits) _ moved
-    (chunk-differs (textOf (now (a .text)) (a .n)) (patternOf (now (a .word)) (a .m)) (l .at) (a .m - 8) 8 (omega (arith, long-enough _ (s .pre .0 .pattern)))
+    (stepped-miss (textOf (now (a .text)) (a .n)) (patternOf (now (a .pattern)) (a .m)) (now (a .cells)) (s .pre .0) (l .at) inside (l .list) (l .hits) _ moved
+    (chunk-differs (textOf (now (a .text)) (a .n)) (patternOf (now (a .pattern)) (a .m)) (l .at) (a .m - 8) 8 (omega (arith, long-enough _ (s .pre .0 .pattern)))
     (λ e. w .0 .left (c .before .byte-inside2 .ensures ∙ e ∙ sym (c .before .before .before .before .before .byte-inside .ensures)))) fits)))
     (c .if2 .came)
 
@@ -111,8 +111,8 @@ loop-holds c =
     let s = c .before .before .before .before .before in
     let a = s .args in
     let enough = long-enough _ (s .pre .0 .pattern) in
-    let here : min (a .s .0) (places (textOf (now (a .text)) (a .n)) (patternOf (now (a .word)) (a .m))) ≡ a .s .0 = omega arith in
-    (rw here (advanced-none Hash (textOf (now (a .text)) (a .n)) (patternOf (now (a .word)) (a .m)) (a .s .0) (a .budget) (now (a .list)) (a .had) (s .pre .1 .1 .1) (s .pre .1 .1 .0)), omega arith)
+    let here : min (a .s .0) (places (textOf (now (a .text)) (a .n)) (patternOf (now (a .pattern)) (a .m))) ≡ a .s .0 = omega arith in
+    (rw here (advanced-none Hash (textOf (now (a .text)) (a .n)) (patternOf (now (a .pattern)) (a .m)) (a .s .0) (a .budget) (now (a .list)) (a .had) (s .pre .1 .1 .1) (s .pre .1 .1 .0)), omega arith)
 
 add-at : tie.Need-add-at Inv-loop μ-loop
 add-at c = search needs
@@ -121,7 +121,7 @@ byte-inside-requires-2 : tie.Need-byte-inside-requires-2 Inv-loop μ-loop
 byte-inside-requires-2 c κs =
     let s = c .before .before .before .before .before .before .before .before in
     let a = s .args in
-    eight-inside (textOf (now (a .text)) (a .n)) (patternOf (now (a .word)) (a .m)) (now (a .cells)) (s .pre .0) (c .before .before .loop .at) (omega arith)
+    eight-inside (textOf (now (a .text)) (a .n)) (patternOf (now (a .pattern)) (a .m)) (now (a .cells)) (s .pre .0) (c .before .before .loop .at) (omega arith)
 
 add-steps : tie.Need-add-steps Inv-loop μ-loop
 add-steps c = omega (arith, ltb-true)
@@ -142,7 +142,7 @@ returns c =
     let a = s .args in
     let l = c .before .before .before .before .before .before .before .loop in
     more (c .before .before .before .before .before) _ _ _ _
-    (stepped-cut (textOf (now (a .text)) (a .n)) (patternOf (now (a .word)) (a .m)) (now (a .cells)) (s .pre .0) (l .at) (omega arith) (l .list) (l .hits)
+    (stepped-cut (textOf (now (a .text)) (a .n)) (patternOf (now (a .pattern)) (a .m)) (now (a .cells)) (s .pre .0) (l .at) (omega arith) (l .list) (l .hits)
     (stands (c .before .before) _ (c .before .if3 .taken)) (omega (arith, size (c .before .before .before .before .before .before .before), l .inv .0 .writing .fits)))
 
 mul-list : tie.Need-mul-list Inv-loop μ-loop
@@ -182,7 +182,7 @@ returns-2 : tie.Need-returns-2 Inv-loop μ-loop
 returns-2 c =
     let s = c .before .before .before .before .before .before .before .before in
     let a = s .args in
-    let end : a .n - a .m + 1 ≡ places (textOf (now (a .text)) (a .n)) (patternOf (now (a .word)) (a .m)) = omega (arith, s .pre .0 .inside) in
+    let end : a .n - a .m + 1 ≡ places (textOf (now (a .text)) (a .n)) (patternOf (now (a .pattern)) (a .m)) = omega (arith, s .pre .0 .inside) in
     rw (c .cut .ensures, end) (c .before .before .loop .inv .0)
 
 pub advance-spec : {M : Type 1} → statement M

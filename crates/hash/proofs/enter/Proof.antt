@@ -15,27 +15,27 @@ use Rattle.hash.proofs.enter.Statement.{statement}
 use Rattle.hash.proofs.enter.Tie as tie
 
 abbrev Inv-loop : tie.InvT-loop
-Inv-loop word m d k cells₀ x₀ r₀ cells x r = (r ≤ k) × (x ≡ shifted word (m - 8 - d) r) × Entered (patternOf word m) cells₀ cells (d - r)
+Inv-loop pattern m d k cells₀ x₀ r₀ cells x r = (r ≤ k) × (x ≡ shifted pattern (m - 8 - d) r) × Entered (patternOf pattern m) cells₀ cells (d - r)
 
 abbrev μ-loop : tie.MeasureT-loop
-μ-loop word m d k cells₀ x₀ r₀ cells x r = k - r
+μ-loop pattern m d k cells₀ x₀ r₀ cells x r = k - r
 
 -- the first eight bits of the shifted load
 value : (c : tie.In-loop Inv-loop μ-loop)
     → let a = c .before .before .before .before .before .args in
-    c .before .loop .x / 2 ^ 56 ≡ bitsAt (now (a .word)) (a .m - 8 - (a .d - c .before .loop .r)) 8
+    c .before .loop .x / 2 ^ 56 ≡ bitsAt (now (a .pattern)) (a .m - 8 - (a .d - c .before .loop .r)) 8
 value c =
     let a = c .before .before .before .before .before .args in
     let l = c .before .loop in
     let there : a .m - 8 - a .d + l .r ≡ a .m - 8 - (a .d - l .r) = omega arith in
     ap (λ (y : ℕ). y / 2 ^ 56) (l .inv .1)
-    ∙ shifted-first (now (a .word)) (a .m - 8 - a .d) (l .r) (omega arith)
-    ∙ ap (λ (n : ℕ). bitsAt (now (a .word)) n 8) there
+    ∙ shifted-first (now (a .pattern)) (a .m - 8 - a .d) (l .r) (omega arith)
+    ∙ ap (λ (n : ℕ). bitsAt (now (a .pattern)) n 8) there
 
 value-lt : (c : tie.In-loop Inv-loop μ-loop) → c .before .loop .x / 2 ^ 56 < 256
 value-lt c =
     let a = c .before .before .before .before .before .args in
-    rw (value c) (bits-lt (now (a .word)) (a .m - 8 - (a .d - c .before .loop .r)) 8)
+    rw (value c) (bits-lt (now (a .pattern)) (a .m - 8 - (a .d - c .before .loop .r)) 8)
 
 sub-t8 : tie.Need-sub-t8 Inv-loop μ-loop
 sub-t8 c = search needs
@@ -51,7 +51,7 @@ loop-holds c =
     let s = c .before .before .before in
     let a = s .args in
     let all : a .d - 0 ≡ a .d = omega arith in
-    (omega arith, c .word-at .ensures ∙ shifted-none (now (a .word)) (a .m - 8 - a .d), rw all (s .pre .1))
+    (omega arith, c .word-at .ensures ∙ shifted-none (now (a .pattern)) (a .m - 8 - a .d), rw all (s .pre .1))
 
 sub-cells : tie.Need-sub-cells Inv-loop μ-loop
 sub-cells c = search needs
@@ -78,8 +78,8 @@ loop-again c =
     let l = c .before .loop in
     let less : a .d - (l .r + 1) ≡ a .d - l .r - 1 = omega arith in (
       omega arith,
-      ap (λ (y : ℕ). (y * 2 ^ 1) % 2 ^ 64) (l .inv .1) ∙ shifted-more (now (a .word)) (a .m - 8 - a .d) (l .r) (omega arith),
-      rw less (entered-more (patternOf (now (a .word)) (a .m)) (now (a .cells)) (l .cells) (a .d - l .r) _ (l .inv .2) (omega arith) (omega arith) (omega arith) (value c)),
+      ap (λ (y : ℕ). (y * 2 ^ 1) % 2 ^ 64) (l .inv .1) ∙ shifted-more (now (a .pattern)) (a .m - 8 - a .d) (l .r) (omega arith),
+      rw less (entered-more (patternOf (now (a .pattern)) (a .m)) (now (a .cells)) (l .cells) (a .d - l .r) _ (l .inv .2) (omega arith) (omega arith) (omega arith) (value c)),
     )
 
 same-length : tie.Need-same-length Inv-loop μ-loop

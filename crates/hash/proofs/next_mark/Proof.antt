@@ -12,11 +12,11 @@ use Rattle.hash.proofs.next_mark.Tie as tie
 -- what the cell holds
 cell : (c : tie.After-byte-inside)
     → let a = c .before .before .before .before .args in
-    CellAt (textOf (now (a .text)) (a .n)) (patternOf (now (a .word)) (a .m)) (now (a .cells)) (a .s .0) (c .byte-inside .result)
+    CellAt (textOf (now (a .text)) (a .n)) (patternOf (now (a .pattern)) (a .m)) (now (a .cells)) (a .s .0) (c .byte-inside .result)
 cell c =
     let s = c .before .before .before .before in
     let a = s .args in
-    cell-at (textOf (now (a .text)) (a .n)) (patternOf (now (a .word)) (a .m)) (now (a .cells)) (s .pre .0) (a .s .0) _ (c .byte-inside .ensures)
+    cell-at (textOf (now (a .text)) (a .n)) (patternOf (now (a .pattern)) (a .m)) (now (a .cells)) (s .pre .0) (a .s .0) _ (c .byte-inside .ensures)
 
 sub-cut : tie.Need-sub-cut
 sub-cut c = search needs
@@ -28,7 +28,7 @@ byte-inside-requires : tie.Need-byte-inside-requires
 byte-inside-requires c κs =
     let s = c .before .before .before in
     let a = s .args in
-    eight-inside (textOf (now (a .text)) (a .n)) (patternOf (now (a .word)) (a .m)) (now (a .cells)) (s .pre .0) (a .s .0) (s .pre .1)
+    eight-inside (textOf (now (a .text)) (a .n)) (patternOf (now (a .pattern)) (a .m)) (now (a .cells)) (s .pre .0) (a .s .0) (s .pre .1)
 
 mul-far : tie.Need-mul-far
 mul-far c = omega (arith, cell c .small)

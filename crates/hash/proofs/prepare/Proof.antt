@@ -13,10 +13,10 @@ use Rattle.hash.proofs.prepare.Statement.{statement}
 use Rattle.hash.proofs.prepare.Tie as tie
 
 abbrev Inv-loop : tie.InvT-loop
-Inv-loop word m cells₀ d₀ cells d = (d + 8 ≤ m) × Entered (patternOf word m) cells₀ cells d
+Inv-loop pattern m cells₀ d₀ cells d = (d + 8 ≤ m) × Entered (patternOf pattern m) cells₀ cells d
 
 abbrev μ-loop : tie.MeasureT-loop
-μ-loop word m cells₀ d₀ cells d = d
+μ-loop pattern m cells₀ d₀ cells d = d
 
 -- room for the table at each turn
 room : (c : tie.At-loop Inv-loop μ-loop) → 256 ≤ length (c .loop .cells)
@@ -27,7 +27,7 @@ room c =
 -- what the last call leaves
 all : (c : tie.After-slice-known4 Inv-loop μ-loop)
     → let a = c .before .before .before .before .before .before .before .before .before .before .before .before .args in
-    Entered (patternOf (now (a .word)) (a .m)) (now (a .cells)) (c .before .before .enter2 .last .1 .1 .1 .1 .0) (c .before .before .before .before .before .loop .d - c .before .before .before .before .before .loop .d)
+    Entered (patternOf (now (a .pattern)) (a .m)) (now (a .cells)) (c .before .before .enter2 .last .1 .1 .1 .1 .0) (c .before .before .before .before .before .loop .d - c .before .before .before .before .before .loop .d)
 all c =
     entered-then (c .before .before .before .before .before .before .before .before .prepare-ends .ensures) (entered-then (c .before .before .before .before .before .loop .inv .1) (c .before .before .enter2 .ensures))
 
@@ -69,7 +69,7 @@ same-length c = all c .size
 returns : tie.Need-returns Inv-loop μ-loop
 returns c =
     let a = c .before .before .before .before .before .before .before .before .before .before .before .before .args in
-    entered-all (patternOf (now (a .word)) (a .m)) (now (a .cells)) _ _ (all c) (omega arith)
+    entered-all (patternOf (now (a .pattern)) (a .m)) (now (a .cells)) _ _ (all c) (omega arith)
 
 pub prepare-spec : {M : Type 1} → statement M
 prepare-spec =

@@ -15,7 +15,7 @@ use Rattle.hash.proofs.step.Tie as tie
 -- the comparison's answer, of the text with its bit count
 stands-here : (c : tie.After-stands) (b : Bool) → c .stands .result ≡ b
     → let a = c .before .before .before .before .before .before .args in
-    matches (textOf (now (a .text)) (a .n)) (patternOf (now (a .word)) (a .m)) (a .s .0) ≡ b
+    matches (textOf (now (a .text)) (a .n)) (patternOf (now (a .pattern)) (a .m)) (a .s .0) ≡ b
 stands-here c b e = compared _ _ _ _ _ b (c .stands .ensures) e
 
 next-mark-requires : tie.Need-next-mark-requires
@@ -40,21 +40,21 @@ returns : tie.Need-returns
 returns c =
     let s = c .before .before .before .before .before .before .before .before in
     let a = s .args in
-    stepped-hit (textOf (now (a .text)) (a .n)) (patternOf (now (a .word)) (a .m)) (now (a .cells)) (s .pre .0) (a .s .0) (s .pre .1 .1 .0) (now (a .list)) (a .had)
+    stepped-hit (textOf (now (a .text)) (a .n)) (patternOf (now (a .pattern)) (a .m)) (now (a .cells)) (s .pre .0) (a .s .0) (s .pre .1 .1 .0) (now (a .list)) (a .had)
     _ (c .before .before .before .next-mark .ensures) (stands-here (c .before .before) _ (c .before .if1 .taken)) (c .if2 .taken)
 
 returns-2 : tie.Need-returns-2
 returns-2 c =
     let s = c .before .before .before .before .before .before .before .before in
     let a = s .args in
-    stepped-cut (textOf (now (a .text)) (a .n)) (patternOf (now (a .word)) (a .m)) (now (a .cells)) (s .pre .0) (a .s .0) (s .pre .1 .1 .0) (now (a .list)) (a .had)
+    stepped-cut (textOf (now (a .text)) (a .n)) (patternOf (now (a .pattern)) (a .m)) (now (a .cells)) (s .pre .0) (a .s .0) (s .pre .1 .1 .0) (now (a .list)) (a .had)
     (stands-here (c .before .before) _ (c .before .if1 .taken)) (omega arith)
 
 returns-3 : tie.Need-returns-3
 returns-3 c =
     let s = c .before .before .before .before .before .before .before in
     let a = s .args in
-    stepped-miss (textOf (now (a .text)) (a .n)) (patternOf (now (a .word)) (a .m)) (now (a .cells)) (s .pre .0) (a .s .0) (s .pre .1 .1 .0) (now (a .list)) (a .had)
+    stepped-miss (textOf (now (a .text)) (a .n)) (patternOf (now (a .pattern)) (a .m)) (now (a .cells)) (s .pre .0) (a .s .0) (s .pre .1 .1 .0) (now (a .list)) (a .had)
     _ (c .before .before .next-mark .ensures) (stands-here (c .before) _ (c .if1 .left)) (s .pre .1 .1 .1)
 
 pub step-spec : {M : Type 1} → statement M

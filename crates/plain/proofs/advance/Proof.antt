@@ -22,11 +22,11 @@ use Rattle.plain.proofs.advance.Statement.{statement}
 use Rattle.plain.proofs.advance.Tie as tie
 
 abbrev Inv-loop : tie.InvT-loop
-Inv-loop text n word m cells s budget list₀ had limit end at₀ hits₀ list at hits =
-    Advanced Plain (textOf text n) (patternOf word m) at₀ budget list₀ had at (at - at₀) hits false list × (at₀ ≤ at) × (at ≤ end)
+Inv-loop text n pattern m cells s budget list₀ had limit end at₀ hits₀ list at hits =
+    Advanced Plain (textOf text n) (patternOf pattern m) at₀ budget list₀ had at (at - at₀) hits false list × (at₀ ≤ at) × (at ≤ end)
 
 abbrev μ-loop : tie.MeasureT-loop
-μ-loop text n word m cells s budget list₀ had limit end at₀ hits₀ list at hits = end - at
+μ-loop text n pattern m cells s budget list₀ had limit end at₀ hits₀ list at hits = end - at
 
 -- the list keeps its length
 size : (c : tie.At-loop Inv-loop μ-loop) → length (c .loop .list) ≡ length (now (c .before .before .before .before .before .before .args .list))
@@ -35,7 +35,7 @@ size c = writing-length _ _ _ _ _ (c .loop .inv .0 .writing)
 -- the loop stays before the end of the places, and within the budget
 bounds : (c : tie.At-loop Inv-loop μ-loop)
     → let a = c .before .before .before .before .before .before .args in
-    (c .before .reach .result .0 ≤ places (textOf (now (a .text)) (a .n)) (patternOf (now (a .word)) (a .m))) × (c .before .reach .result .0 ≤ a .s .0 + a .budget)
+    (c .before .reach .result .0 ≤ places (textOf (now (a .text)) (a .n)) (patternOf (now (a .pattern)) (a .m))) × (c .before .reach .result .0 ≤ a .s .0 + a .budget)
 bounds c =
     let s = c .before .before .before .before .before .before in
     let e = c .before .reach .ensures in
@@ -48,21 +48,21 @@ long c =
     let s = c .before .before .before .before .before .before in
     let a = s .args in
     let r = s .pre .0 in
-    tables-long (textOf (now (a .text)) (a .n)) (patternOf (now (a .word)) (a .m)) (now (a .cells)) (r .tables) 0 (r .pattern .some-bits)
+    tables-long (textOf (now (a .text)) (a .n)) (patternOf (now (a .pattern)) (a .m)) (now (a .cells)) (r .tables) 0 (r .pattern .some-bits)
 
 -- the pattern does not stand at the places before the candidate
 passed : (c : tie.After-candidate Inv-loop μ-loop) (q : ℕ) → c .before .before .loop .at ≤ q → q < c .candidate .result .0
     → let a = c .before .before .before .before .before .before .before .before .args in
-    matches (textOf (now (a .text)) (a .n)) (patternOf (now (a .word)) (a .m)) q ≡ false
+    matches (textOf (now (a .text)) (a .n)) (patternOf (now (a .pattern)) (a .m)) q ≡ false
 passed c q l u =
     let s = c .before .before .before .before .before .before .before .before in
     let a = s .args in
     let r = s .pre .0 in
-    cell-differs (textOf (now (a .text)) (a .n)) (patternOf (now (a .word)) (a .m)) (now (a .cells)) (r .tables) q (λ x. c .before .before .before .before .before .shared-slice-known3 .given x .fits) 0
+    cell-differs (textOf (now (a .text)) (a .n)) (patternOf (now (a .pattern)) (a .m)) (now (a .cells)) (r .tables) q (λ x. c .before .before .before .before .before .shared-slice-known3 .given x .fits) 0
     (omega (arith, r .pattern .some-bits)) (c .candidate .ensures .2 q l u)
 
 -- the candidate lies before the end of the places
-inside : (c : tie.Else1 Inv-loop μ-loop) → let a = c .before .before .before .before .before .before .before .before .before .args in c .before .candidate .result .0 < places (textOf (now (a .text)) (a .n)) (patternOf (now (a .word)) (a .m))
+inside : (c : tie.Else1 Inv-loop μ-loop) → let a = c .before .before .before .before .before .before .before .before .before .args in c .before .candidate .result .0 < places (textOf (now (a .text)) (a .n)) (patternOf (now (a .pattern)) (a .m))
 inside c =
     let b = bounds (c .before .before .before) in
     let h = c .if1 .left in
@@ -73,15 +73,15 @@ more : (c : tie.Else1 Inv-loop μ-loop) (at hits : ℕ) (no-cell : Bool) (list :
     → let a = c .before .before .before .before .before .before .before .before .before .args in
     let l = c .before .before .before .loop in
     let p = c .before .candidate .result .0 in
-    Stepped Plain (textOf (now (a .text)) (a .n)) (patternOf (now (a .word)) (a .m)) p (l .list) (l .hits) at hits no-cell list
-    → Advanced Plain (textOf (now (a .text)) (a .n)) (patternOf (now (a .word)) (a .m)) (a .s .0) (a .budget) (now (a .list)) (a .had) at (p + 1 - a .s .0) hits no-cell list
+    Stepped Plain (textOf (now (a .text)) (a .n)) (patternOf (now (a .pattern)) (a .m)) p (l .list) (l .hits) at hits no-cell list
+    → Advanced Plain (textOf (now (a .text)) (a .n)) (patternOf (now (a .pattern)) (a .m)) (a .s .0) (a .budget) (now (a .list)) (a .had) at (p + 1 - a .s .0) hits no-cell list
 more c at hits no-cell list u =
     let s = c .before .before .before .before .before .before .before .before .before in
     let a = s .args in
     let l = c .before .before .before .loop in
     let b = bounds (c .before .before .before) in
     let h = c .if1 .left in
-    step-at (textOf (now (a .text)) (a .n)) (patternOf (now (a .word)) (a .m)) (a .s .0) (a .budget) (now (a .list)) (a .had) (l .at) (l .hits) (l .list) (s .pre .1 .1 .1) (l .inv .1) (l .inv .0)
+    step-at (textOf (now (a .text)) (a .n)) (patternOf (now (a .pattern)) (a .m)) (a .s .0) (a .budget) (now (a .list)) (a .had) (l .at) (l .hits) (l .list) (s .pre .1 .1 .1) (l .inv .1) (l .inv .0)
     (c .before .candidate .result .0) (c .before .candidate .ensures .0) (inside c) (omega arith) (passed (c .before)) at hits no-cell list u
 
 -- whether all cells of the candidate's row agree: its first cell does
@@ -110,7 +110,7 @@ loop-holds c =
     let none : a .s .0 - a .s .0 ≡ 0 = omega arith in
     let e = c .reach .ensures in
     let i = s .pre .0 .inside in
-    (rw none (advanced-none Plain (textOf (now (a .text)) (a .n)) (patternOf (now (a .word)) (a .m)) (a .s .0) (a .budget) (now (a .list)) (a .had) (s .pre .1 .1 .1) (s .pre .1 .1 .0)), omega arith, omega (arith, s .pre .1 .1 .0))
+    (rw none (advanced-none Plain (textOf (now (a .text)) (a .n)) (patternOf (now (a .pattern)) (a .m)) (a .s .0) (a .budget) (now (a .list)) (a .had) (s .pre .1 .1 .1) (s .pre .1 .1 .0)), omega arith, omega (arith, s .pre .1 .1 .0))
 
 candidate-requires : tie.Need-candidate-requires Inv-loop μ-loop
 candidate-requires c κs =
@@ -133,7 +133,7 @@ returns c =
     let l = c .before .before .before .before .loop in
     let b = bounds (c .before .before .before .before) in
     let h = c .before .if1 .taken in
-    pass-to (textOf (now (a .text)) (a .n)) (patternOf (now (a .word)) (a .m)) (a .s .0) (a .budget) (now (a .list)) (a .had) (l .at) (l .hits) (l .list) (s .pre .1 .1 .1) (l .inv .1) (l .inv .0)
+    pass-to (textOf (now (a .text)) (a .n)) (patternOf (now (a .pattern)) (a .m)) (a .s .0) (a .budget) (now (a .list)) (a .had) (l .at) (l .hits) (l .list) (s .pre .1 .1 .1) (l .inv .1) (l .inv .0)
     _ (l .inv .2) (b .0) (b .1) (λ q g u. passed (c .before .before) q g (omega arith))
 
 add-at : tie.Need-add-at Inv-loop μ-loop
@@ -158,7 +158,7 @@ returns-2 c =
     let l = c .before .before .before .before .before .before .before .loop in
     let fits : l .hits ≤ length (l .list) = omega (arith, size (c .before .before .before .before .before .before .before), l .inv .0 .writing .fits) in
     more (c .before .before .before .before) _ _ _ _
-    (step-full (textOf (now (a .text)) (a .n)) (patternOf (now (a .word)) (a .m)) (now (a .cells)) (s .pre .0)
+    (step-full (textOf (now (a .text)) (a .n)) (patternOf (now (a .pattern)) (a .m)) (now (a .cells)) (s .pre .0)
     (λ x. c .before .before .before .before .before .before .before .before .before .before .shared-slice-known3 .given x .fits) (c .before .before .before .before .before .candidate .result .0) (inside (c .before .before .before .before)) (l .list) (l .hits) fits _
     (test (c .before .before .before)) (c .before .before .if2 .taken) (c .before .if3 .taken))
 
@@ -186,7 +186,7 @@ loop-again c =
     let b = c .before .before .before .before .candidate .ensures .0 in
     let h = c .before .before .before .if1 .left in (
       more (c .before .before .before) _ _ _ _
-          (step-one (textOf (now (a .text)) (a .n)) (patternOf (now (a .word)) (a .m)) (now (a .cells)) (s .pre .0)
+          (step-one (textOf (now (a .text)) (a .n)) (patternOf (now (a .pattern)) (a .m)) (now (a .cells)) (s .pre .0)
           (λ x. c .before .before .before .before .before .before .before .before .before .shared-slice-known3 .given x .fits) (c .before .before .before .before .candidate .result .0) (inside (c .before .before .before)) (l .list) (l .hits) fits _
           (test (c .before .before)) (c .before .if2 .taken) (omega arith)),
       omega (arith, l .inv .1),
@@ -208,7 +208,7 @@ loop-again-2 c =
     let b = c .before .before .before .candidate .ensures .0 in
     let h = c .before .before .if1 .left in (
       more (c .before .before) _ _ _ _
-          (step-none (textOf (now (a .text)) (a .n)) (patternOf (now (a .word)) (a .m)) (now (a .cells)) (s .pre .0)
+          (step-none (textOf (now (a .text)) (a .n)) (patternOf (now (a .pattern)) (a .m)) (now (a .cells)) (s .pre .0)
           (λ x. c .before .before .before .before .before .before .before .before .shared-slice-known3 .given x .fits) (c .before .before .before .candidate .result .0) (inside (c .before .before)) (l .list) (l .hits) fits _
           (test (c .before)) (c .if2 .left)),
       omega (arith, l .inv .1),

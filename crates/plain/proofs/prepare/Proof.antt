@@ -12,16 +12,16 @@ use Rattle.plain.proofs.prepare.Statement.{statement}
 use Rattle.plain.proofs.prepare.Tie as tie
 
 abbrev Inv-loop : tie.InvT-loop
-Inv-loop word m cells₀ chunks prev₀ prev-mask₀ k₀ cells prev prev-mask k = (k ≤ chunks) × Made (patternOf word m) k prev prev-mask cells₀ cells
+Inv-loop pattern m cells₀ chunks prev₀ prev-mask₀ k₀ cells prev prev-mask k = (k ≤ chunks) × Made (patternOf pattern m) k prev prev-mask cells₀ cells
 
 abbrev μ-loop : tie.MeasureT-loop
-μ-loop word m cells₀ chunks prev₀ prev-mask₀ k₀ cells prev prev-mask k = chunks - k
+μ-loop pattern m cells₀ chunks prev₀ prev-mask₀ k₀ cells prev prev-mask k = chunks - k
 
 add-chunks : tie.Need-add-chunks Inv-loop μ-loop
 add-chunks c = search needs
 
 loop-holds : tie.Need-loop-holds Inv-loop μ-loop
-loop-holds c = let a = c .before .before .args in (omega arith, made-none (patternOf (now (a .word)) (a .m)) (now (a .cells)))
+loop-holds c = let a = c .before .before .args in (omega arith, made-none (patternOf (now (a .pattern)) (a .m)) (now (a .cells)))
 
 ones-requires : tie.Need-ones-requires Inv-loop μ-loop
 ones-requires c κs = search needs
@@ -48,7 +48,7 @@ loop-again : tie.Need-loop-again Inv-loop μ-loop
 loop-again c =
     let a = c .before .before .before .before .before .before .before .before .before .before .args in
     let l = c .before .before .before .before .before .before .before .loop in
-    let w = patternOf (now (a .word)) (a .m) in
+    let w = patternOf (now (a .pattern)) (a .m) in
     let ms = mask-holds w (l .k) _ (c .before .before .before .before .before .ones .ensures) in (
       omega arith,
       made-more w (l .k) (l .prev) (l .prev-mask) _ _ (now (a .cells)) (l .cells) _ (l .inv .1)
@@ -63,7 +63,7 @@ returns c =
     let s = c .before .before .before .before in
     let l = c .before .loop in
     let whole : rowChunks (s .args .m) ≡ l .k = omega arith in
-    made-all (patternOf (now (s .args .word)) (s .args .m)) (l .k) _ _ (now (s .args .cells)) (l .cells) (l .inv .1) (s .pre .0 .some-bits) whole
+    made-all (patternOf (now (s .args .pattern)) (s .args .m)) (l .k) _ _ (now (s .args .cells)) (l .cells) (l .inv .1) (s .pre .0 .some-bits) whole
 
 pub prepare-spec : {M : Type 1} → statement M
 prepare-spec =

@@ -16,14 +16,14 @@ row-fits-requires c κs =
     let r = s .pre .0 in (
       r .pattern .few-bits,
       omega (arith, r .few-bits, r .pattern .some-bits),
-      tables-long (textOf (now (a .text)) (a .n)) (patternOf (now (a .word)) (a .m)) (now (a .cells)) (r .tables) 0 (r .pattern .some-bits),
+      tables-long (textOf (now (a .text)) (a .n)) (patternOf (now (a .pattern)) (a .m)) (now (a .cells)) (r .tables) 0 (r .pattern .some-bits),
     )
 
 returns : tie.Need-returns
 returns c =
     let s = c .before .before .before .before .before .before .before in
     let a = s .args in
-    step-full (textOf (now (a .text)) (a .n)) (patternOf (now (a .word)) (a .m)) (now (a .cells)) (s .pre .0)
+    step-full (textOf (now (a .text)) (a .n)) (patternOf (now (a .pattern)) (a .m)) (now (a .cells)) (s .pre .0)
     (λ x. c .before .before .before .before .shared-slice-known3 .given x .fits) (a .s .0) (s .pre .1 .1 .0) (now (a .list)) (a .had) (s .pre .1 .1 .1) _
     (c .before .before .row-fits .ensures) (c .before .if1 .taken) (omega arith)
 
@@ -46,7 +46,7 @@ returns-2 : tie.Need-returns-2
 returns-2 c =
     let s = c .before .before .before .before .before .before .before in
     let a = s .args in
-    step-one (textOf (now (a .text)) (a .n)) (patternOf (now (a .word)) (a .m)) (now (a .cells)) (s .pre .0)
+    step-one (textOf (now (a .text)) (a .n)) (patternOf (now (a .pattern)) (a .m)) (now (a .cells)) (s .pre .0)
     (λ x. c .before .before .before .before .shared-slice-known3 .given x .fits) (a .s .0) (s .pre .1 .1 .0) (now (a .list)) (a .had) (s .pre .1 .1 .1) _
     (c .before .before .row-fits .ensures) (c .before .if1 .taken) (omega arith)
 
@@ -57,7 +57,7 @@ returns-3 : tie.Need-returns-3
 returns-3 c =
     let s = c .before .before .before .before .before .before in
     let a = s .args in
-    step-none (textOf (now (a .text)) (a .n)) (patternOf (now (a .word)) (a .m)) (now (a .cells)) (s .pre .0)
+    step-none (textOf (now (a .text)) (a .n)) (patternOf (now (a .pattern)) (a .m)) (now (a .cells)) (s .pre .0)
     (λ x. c .before .before .before .shared-slice-known3 .given x .fits) (a .s .0) (s .pre .1 .1 .0) (now (a .list)) (a .had) (s .pre .1 .1 .1) _
     (c .before .row-fits .ensures) (c .if1 .left)
 

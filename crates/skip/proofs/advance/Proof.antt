@@ -22,18 +22,18 @@ use Rattle.skip.proofs.advance.Statement.{statement}
 use Rattle.skip.proofs.advance.Tie as tie
 
 abbrev Inv-loop : tie.InvT-loop
-Inv-loop text n word m h cells budget list₀ had end stride at₀ b₀ steps₀ hits₀ list at b steps hits =
+Inv-loop text n pattern m h cells budget list₀ had end stride at₀ b₀ steps₀ hits₀ list at b steps hits =
     (at % 8 ≡ 1)
     × (b .0 ≡ (at + m) / 8 - 1)
-    × Advanced Skip (textOf text n) (patternOf word m) at₀ budget list₀ had (min at (places (textOf text n) (patternOf word m))) steps hits false list
+    × Advanced Skip (textOf text n) (patternOf pattern m) at₀ budget list₀ had (min at (places (textOf text n) (patternOf pattern m))) steps hits false list
 
 abbrev μ-loop : tie.MeasureT-loop
-μ-loop text n word m h cells budget list₀ had end stride at₀ b₀ steps₀ hits₀ list at b steps hits = budget - steps
+μ-loop text n pattern m h cells budget list₀ had end stride at₀ b₀ steps₀ hits₀ list at b steps hits = budget - steps
 
 -- the mark is below E
 due : (c : tie.In-loop Inv-loop μ-loop)
     → let a = c .before .before .before .before .before .before .before .before .before .before .before .args in
-    c .before .loop .at < places (textOf (now (a .text)) (a .n)) (patternOf (now (a .word)) (a .m))
+    c .before .loop .at < places (textOf (now (a .text)) (a .n)) (patternOf (now (a .pattern)) (a .m))
 due c = below-end _ _ _ (c .before .before .before .before .before .before .before .before .before .before .before .pre .0 .inside) (c .loop-test .taken)
 
 -- the numbers of the turn fit
@@ -67,7 +67,7 @@ returns : tie.Need-returns Inv-loop μ-loop
 returns c =
     let s = c .before .before .before .before .before .before .before .before in
     let a = s .args in
-    advanced-none Skip (textOf (now (a .text)) (a .n)) (patternOf (now (a .word)) (a .m)) (a .s .0) (a .budget) (now (a .list)) (a .had) (s .pre .1 .1 .1) (s .pre .1 .1 .0)
+    advanced-none Skip (textOf (now (a .text)) (a .n)) (patternOf (now (a .pattern)) (a .m)) (a .s .0) (a .budget) (now (a .list)) (a .had) (s .pre .1 .1 .1) (s .pre .1 .1 .0)
 
 last-byte-requires : tie.Need-last-byte-requires Inv-loop μ-loop
 last-byte-requires c κs =
@@ -79,7 +79,7 @@ loop-holds c =
     let s = c .before .before .before .before .before .before .before .before .before in
     let a = s .args in
     let t = textOf (now (a .text)) (a .n) in
-    let w = patternOf (now (a .word)) (a .m) in
+    let w = patternOf (now (a .pattern)) (a .m) in
     (sym (c .before .before .offset .ensures) ∙ c .before .if1 .left, c .last-byte .ensures, rw (cut-none (a .s .0) (places t w) (s .pre .1 .1 .0)) (advanced-none Skip t w (a .s .0) (a .budget) (now (a .list)) (a .had) (s .pre .1 .1 .1) (s .pre .1 .1 .0)))
   where
     cut-none : (x y : ℕ) → x ≤ y → min x y ≡ x
@@ -102,13 +102,13 @@ add-steps c = omega (arith, left (c .before .before .before .before), c .before 
 turned : (c : tie.After-chain Inv-loop μ-loop)
     → let a = c .before .before .before .before .before .before .before .before .before .before .before .before .before .before .args in
     let r = c .chain .result in
-    Advanced Skip (textOf (now (a .text)) (a .n)) (patternOf (now (a .word)) (a .m)) (a .s .0) (a .budget) (now (a .list)) (a .had) (r .at .0) (c .before .before .before .before .loop .steps + 1) (r .hits) (r .full) (c .chain .last .1 .1 .1 .1 .1 .1 .1 .0)
+    Advanced Skip (textOf (now (a .text)) (a .n)) (patternOf (now (a .pattern)) (a .m)) (a .s .0) (a .budget) (now (a .list)) (a .had) (r .at .0) (c .before .before .before .before .loop .steps + 1) (r .hits) (r .full) (c .chain .last .1 .1 .1 .1 .1 .1 .1 .0)
 turned c =
     let k = c .before .before .before in
     let l = k .before .loop in
     let s = c .before .before .before .before .before .before .before .before .before .before .before .before .before .before in
     let a = s .args in
-    turn-step (textOf (now (a .text)) (a .n)) (patternOf (now (a .word)) (a .m)) (a .s .0) (a .budget) (now (a .list)) (a .had) (l .at) (l .steps) (l .hits) (l .list) (s .pre .1 .1 .1)
+    turn-step (textOf (now (a .text)) (a .n)) (patternOf (now (a .pattern)) (a .m)) (a .s .0) (a .budget) (now (a .list)) (a .had) (l .at) (l .steps) (l .hits) (l .list) (s .pre .1 .1 .1)
     (l .inv .2) (due k) (left (c .before .before)) (long-enough _ _ _ (s .pre .0)) (l .b .0) (l .inv .0) (l .inv .1) _ _ _ _ (c .chain .ensures)
 
 same-length : tie.Need-same-length Inv-loop μ-loop
@@ -141,7 +141,7 @@ loop-again c =
       odd (l .b .0) _ top,
       next-byte (l .b .0) (a .m) _ _ _ long (i .before .indices .ensures) (i .byte .ensures) top,
       rw top
-          (turn-whole (textOf (now (a .text)) (a .n)) (patternOf (now (a .word)) (a .m)) (a .s .0) (a .budget) (now (a .list)) (a .had) (l .at) (l .steps) (l .hits) (l .list) (s .pre .1 .1 .1)
+          (turn-whole (textOf (now (a .text)) (a .n)) (patternOf (now (a .pattern)) (a .m)) (a .s .0) (a .budget) (now (a .list)) (a .had) (l .at) (l .steps) (l .hits) (l .list) (s .pre .1 .1 .1)
           (l .inv .2) (due k) (left (c .before .before .before .before .before .before .before)) long (l .b .0) (l .inv .0) (l .inv .1) _ _ _ (rw (c .before .before .if3 .left) at (c .before .before .before .before .before .chain .ensures))),
     )
   where
@@ -159,7 +159,7 @@ returns-3 c =
     let l = c .before .before .loop in
     let s = c .before .before .before .before .before .before .before .before .before .before .before .before in
     let a = s .args in
-    let E = places (textOf (now (a .text)) (a .n)) (patternOf (now (a .word)) (a .m)) in
+    let E = places (textOf (now (a .text)) (a .n)) (patternOf (now (a .pattern)) (a .m)) in
     let end : a .n - a .m + 1 ≡ E = omega (arith, s .pre .0 .inside) in
     rw (c .cut .ensures, end) (l .inv .2)
 

@@ -25,12 +25,12 @@ use Rattle.skip.proofs.chain.Statement.{statement}
 use Rattle.skip.proofs.chain.Tie as tie
 
 abbrev Inv-loop : tie.InvT-loop
-Inv-loop text n word m h cells list₀ had byte top end next₀ written₀ list next written =
-    Headed (patternOf word m) (bitsAt text (8 * byte) 8) 0 next
-    × Writing list₀ had (occurrences (textOf text n) (patternOf word m) (8 * byte + 1 - chained m) (8 * byte + 1 - next)) list written
+Inv-loop text n pattern m h cells list₀ had byte top end next₀ written₀ list next written =
+    Headed (patternOf pattern m) (bitsAt text (8 * byte) 8) 0 next
+    × Writing list₀ had (occurrences (textOf text n) (patternOf pattern m) (8 * byte + 1 - chained m) (8 * byte + 1 - next)) list written
 
 abbrev μ-loop : tie.MeasureT-loop
-μ-loop text n word m h cells list₀ had byte top end next₀ written₀ list next written = next
+μ-loop text n pattern m h cells list₀ had byte top end next₀ written₀ list next written = next
 
 some : {j : ℕ} → (j ≡ 0 → ⊥) → 0 < j
 some h = omega arith
@@ -52,12 +52,12 @@ first-bit c = c .place .ensures ∙ mul-comm _ 8
 -- the link that is read first heads the chain of byte b
 head : (c : tie.After-shared-slice-known5 Inv-loop μ-loop)
     → let a = c .before .before .before .before .before .before .before .before .args in
-    getD (now (a .cells)) (getD (now (a .text)) (a .b .0) 0) 0 ≡ lastShown (patternOf (now (a .word)) (a .m)) (byteOf (textOf (now (a .text)) (a .n)) (patternOf (now (a .word)) (a .m)) (a .b .0)) (chained (a .m))
+    getD (now (a .cells)) (getD (now (a .text)) (a .b .0) 0) 0 ≡ lastShown (patternOf (now (a .pattern)) (a .m)) (byteOf (textOf (now (a .text)) (a .n)) (patternOf (now (a .pattern)) (a .m)) (a .b .0)) (chained (a .m))
 head c =
     let s = c .before .before .before .before .before .before .before .before in
     let a = s .args in
     let byte = c .before .shared-slice-known4 .given (a .b .0) .fits in
-    s .pre .0 .tables .head-is _ byte ∙ ap (λ (v : ℕ). lastShown (patternOf (now (a .word)) (a .m)) v (chained (a .m))) (byte-is (now (a .text)) (a .b .0) byte)
+    s .pre .0 .tables .head-is _ byte ∙ ap (λ (v : ℕ). lastShown (patternOf (now (a .pattern)) (a .m)) v (chained (a .m))) (byte-is (now (a .text)) (a .b .0) byte)
 
 -- the link's place is not before the mark
 from-mark : (c : tie.At-loop Inv-loop μ-loop)
@@ -66,7 +66,7 @@ from-mark : (c : tie.At-loop Inv-loop μ-loop)
 from-mark c =
     let s = c .before .before .before .before .before .before .before .before .before in
     let a = s .args in
-    let near = headed-within (patternOf (now (a .word)) (a .m)) (now (a .cells)) (s .pre .0 .tables) (bitsAt (now (a .text)) (8 * a .b .0) 8) 0 (c .loop .next) (c .loop .inv .0) in
+    let near = headed-within (patternOf (now (a .pattern)) (a .m)) (now (a .cells)) (s .pre .0 .tables) (bitsAt (now (a .text)) (8 * a .b .0) 8) 0 (c .loop .next) (c .loop .inv .0) in
     (near, above (c .loop .next) (chained (a .m)) (8 * a .b .0) near (s .pre .1 .1 .0))
   where
     above : (j k x : ℕ) → j ≤ k → k ≤ x → j + (x + 1 - k) ≤ x + 1
@@ -81,7 +81,7 @@ inside c = below-end _ _ _ (c .before .before .before .before .before .before .b
 -- the comparison's answer
 stands : (c : tie.After-same Inv-loop μ-loop) (x : Bool) → c .same .result ≡ x
     → let a = c .before .before .before .before .before .before .before .before .before .before .before .before .args in
-    occurs (textOf (now (a .text)) (a .n)) (patternOf (now (a .word)) (a .m)) (8 * a .b .0 + 1 - c .before .before .before .loop .next) ≡ x
+    occurs (textOf (now (a .text)) (a .n)) (patternOf (now (a .pattern)) (a .m)) (8 * a .b .0 + 1 - c .before .before .before .loop .next) ≡ x
 stands c x e =
     let top = first-bit (c .before .before .before .before .before .before .before) in
     compared-place _ _ _ _ _ x (rw top at (c .same .ensures)) e (inside (c .before))
@@ -128,7 +128,7 @@ loop-holds c =
     let s = c .before .before .before .before .before .before .before .before in
     let a = s .args in
     let t = textOf (now (a .text)) (a .n) in
-    let w = patternOf (now (a .word)) (a .m) in
+    let w = patternOf (now (a .pattern)) (a .m) in
     let b = a .b .0 in
     let fits = chained-fits (a .m) (long-enough _ _ _ (s .pre .0)) in
     let within = shown-is w (byteOf t w b) (chained (a .m)) .within in
@@ -160,7 +160,7 @@ returns c =
     let s = c .before .before .before .before .before .before .before .before .before .before .before .before .before .before in
     let a = s .args in
     let t = textOf (now (a .text)) (a .n) in
-    let w = patternOf (now (a .word)) (a .m) in
+    let w = patternOf (now (a .pattern)) (a .m) in
     let b = a .b .0 in
     let p = 8 * b + 1 - chained (a .m) in
     let long = long-enough _ _ _ (s .pre .0) in
@@ -194,7 +194,7 @@ loop-less c =
     let l = c .before .before .before .before .before .loop in
     let s = c .before .before .before .before .before .before .before .before .before .before .before .before .before .before in
     let a = s .args in
-    headed-less (patternOf (now (a .word)) (a .m)) (now (a .cells)) (s .pre .0 .tables) (bitsAt (now (a .text)) (8 * a .b .0) 8) 0 (l .next) (l .inv .0) (some (c .before .before .before .before .loop-test .taken))
+    headed-less (patternOf (now (a .pattern)) (a .m)) (now (a .cells)) (s .pre .0 .tables) (bitsAt (now (a .text)) (8 * a .b .0) 8) 0 (l .next) (l .inv .0) (some (c .before .before .before .before .loop-test .taken))
 
 loop-again : tie.Need-loop-again Inv-loop μ-loop
 loop-again c =
@@ -202,7 +202,7 @@ loop-again c =
     let s = c .before .before .before .before .before .before .before .before .before .before .before .before .before .before in
     let a = s .args in
     let t = textOf (now (a .text)) (a .n) in
-    let w = patternOf (now (a .word)) (a .m) in
+    let w = patternOf (now (a .pattern)) (a .m) in
     let b = a .b .0 in
     let p = 8 * b + 1 - chained (a .m) in
     let cells = now (a .cells) in
@@ -245,7 +245,7 @@ returns-2 c =
     let s = c .before .before .before .before .before .before .before .before .before .before .before in
     let a = s .args in
     let t = textOf (now (a .text)) (a .n) in
-    let w = patternOf (now (a .word)) (a .m) in
+    let w = patternOf (now (a .pattern)) (a .m) in
     let b = a .b .0 in
     let p = 8 * b + 1 - chained (a .m) in
     let long = long-enough _ _ _ (s .pre .0) in

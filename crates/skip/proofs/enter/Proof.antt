@@ -17,24 +17,24 @@ use Rattle.skip.proofs.enter.Statement.{statement}
 use Rattle.skip.proofs.enter.Tie as tie
 
 abbrev Inv-loop : tie.InvT-loop
-Inv-loop word m j k cells₀ x₀ r₀ cells x r = (r ≤ k) × (x ≡ shifted word j r) × Filled (patternOf word m) cells₀ (j + r) cells
+Inv-loop pattern m j k cells₀ x₀ r₀ cells x r = (r ≤ k) × (x ≡ shifted pattern j r) × Filled (patternOf pattern m) cells₀ (j + r) cells
 
 abbrev μ-loop : tie.MeasureT-loop
-μ-loop word m j k cells₀ x₀ r₀ cells x r = k - r
+μ-loop pattern m j k cells₀ x₀ r₀ cells x r = k - r
 
 -- the first eight bits of the shifted load
 value : (c : tie.In-loop Inv-loop μ-loop)
     → let a = c .before .before .before .before .before .args in
-    c .before .loop .x / 2 ^ 56 ≡ bitsAt (now (a .word)) (a .j + c .before .loop .r) 8
+    c .before .loop .x / 2 ^ 56 ≡ bitsAt (now (a .pattern)) (a .j + c .before .loop .r) 8
 value c =
     let a = c .before .before .before .before .before .args in
     let l = c .before .loop in
-    ap (λ (y : ℕ). y / 2 ^ 56) (l .inv .1) ∙ shifted-first (now (a .word)) (a .j) (l .r) (omega arith)
+    ap (λ (y : ℕ). y / 2 ^ 56) (l .inv .1) ∙ shifted-first (now (a .pattern)) (a .j) (l .r) (omega arith)
 
 value-lt : (c : tie.In-loop Inv-loop μ-loop) → c .before .loop .x / 2 ^ 56 < 256
 value-lt c =
     let a = c .before .before .before .before .before .args in
-    rw (value c) (bits-lt (now (a .word)) (a .j + c .before .loop .r) 8)
+    rw (value c) (bits-lt (now (a .pattern)) (a .j + c .before .loop .r) 8)
 
 word-at-requires : tie.Need-word-at-requires Inv-loop μ-loop
 word-at-requires c κs = search needs
@@ -43,7 +43,7 @@ loop-holds : tie.Need-loop-holds Inv-loop μ-loop
 loop-holds c =
     let s = c .before .before .before in
     let a = s .args in
-    (omega arith, c .word-at .ensures ∙ shifted-none (now (a .word)) (a .j), rw (add-zero (a .j)) (s .pre .1))
+    (omega arith, c .word-at .ensures ∙ shifted-none (now (a .pattern)) (a .j), rw (add-zero (a .j)) (s .pre .1))
 
 add-i : tie.Need-add-i Inv-loop μ-loop
 add-i c = omega arith
@@ -89,10 +89,10 @@ loop-again c =
     let s = c .before .before .before .before .before .before in
     let a = s .args in
     let l = c .before .before .loop in
-    let w = patternOf (now (a .word)) (a .m) in
+    let w = patternOf (now (a .pattern)) (a .m) in
     let more : a .j + (l .r + 1) ≡ a .j + l .r + 1 = omega arith in (
       omega arith,
-      ap (λ (y : ℕ). (y * 2 ^ 1) % 2 ^ 64) (l .inv .1) ∙ shifted-more (now (a .word)) (a .j) (l .r) (omega arith),
+      ap (λ (y : ℕ). (y * 2 ^ 1) % 2 ^ 64) (l .inv .1) ∙ shifted-more (now (a .pattern)) (a .j) (l .r) (omega arith),
       rw more (filled-more w (now (a .cells)) (l .cells) (a .j + l .r) _ (l .inv .2) (value (c .before)) (omega arith) (omega arith)),
     )
 

@@ -12,17 +12,17 @@ use Rattle.skip.proofs.first_link.Statement.{statement}
 use Rattle.skip.proofs.first_link.Tie as tie
 
 abbrev Inv-loop : tie.InvT-loop
-Inv-loop word m cells v k high j₀ j = Headed (patternOf word m) v k j
+Inv-loop pattern m cells v k high j₀ j = Headed (patternOf pattern m) v k j
 
 abbrev μ-loop : tie.MeasureT-loop
-μ-loop word m cells v k high j₀ j = j
+μ-loop pattern m cells v k high j₀ j = j
 
 near : (c : tie.In-loop Inv-loop μ-loop) → c .before .loop .j ≤ c .before .before .before .before .before .before .before .args .m
 near c =
     let s = c .before .before .before .before .before .before .before in
     let a = s .args in
     let l = c .before .loop in
-    omega (arith, chained-le (a .m), headed-within (patternOf (now (a .word)) (a .m)) (now (a .cells)) (s .pre .0) (a .v) (a .k) (l .j) (l .inv))
+    omega (arith, chained-le (a .m), headed-within (patternOf (now (a .pattern)) (a .m)) (now (a .cells)) (s .pre .0) (a .v) (a .k) (l .j) (l .inv))
 
 indices-requires : tie.Need-indices-requires Inv-loop μ-loop
 indices-requires c κs = search needs
@@ -30,7 +30,7 @@ indices-requires c κs = search needs
 returns : tie.Need-returns Inv-loop μ-loop
 returns c =
     let a = c .before .before .before .before .args in
-    (omega arith, shown-is (patternOf (now (a .word)) (a .m)) (a .v) (a .k) .within, λ g. absurd (omega (arith, c .before .indices .ensures)))
+    (omega arith, shown-is (patternOf (now (a .pattern)) (a .m)) (a .v) (a .k) .within, λ g. absurd (omega (arith, c .before .indices .ensures)))
 
 mul-j : tie.Need-mul-j Inv-loop μ-loop
 mul-j c = omega arith
@@ -43,7 +43,7 @@ loop-holds c =
     let s = c .before .before .before .before .before in
     let a = s .args in
     let few : a .k ≤ chained (a .m) = omega (arith, c .before .before .indices .ensures) in
-    headed-first (patternOf (now (a .word)) (a .m)) (now (a .cells)) (s .pre .0) (a .v) (a .k) (s .fits .v .fits) few
+    headed-first (patternOf (now (a .pattern)) (a .m)) (now (a .cells)) (s .pre .0) (a .v) (a .k) (s .fits .v .fits) few
 
 add-j : tie.Need-add-j Inv-loop μ-loop
 add-j c = omega (arith, near c)
@@ -59,20 +59,20 @@ loop-less c =
     let s = c .before .before .before .before .before .before .before .before in
     let a = s .args in
     let l = c .before .before .loop in
-    headed-less (patternOf (now (a .word)) (a .m)) (now (a .cells)) (s .pre .0) (a .v) (a .k) (l .j) (l .inv) (omega arith)
+    headed-less (patternOf (now (a .pattern)) (a .m)) (now (a .cells)) (s .pre .0) (a .v) (a .k) (l .j) (l .inv) (omega arith)
 
 loop-again : tie.Need-loop-again Inv-loop μ-loop
 loop-again c =
     let s = c .before .before .before .before .before .before .before .before in
     let a = s .args in
     let l = c .before .before .loop in
-    headed-more (patternOf (now (a .word)) (a .m)) (now (a .cells)) (s .pre .0) (a .v) (a .k) (l .j) (l .inv) (c .before .loop-test .taken)
+    headed-more (patternOf (now (a .pattern)) (a .m)) (now (a .cells)) (s .pre .0) (a .v) (a .k) (l .j) (l .inv) (c .before .loop-test .taken)
 
 returns-2 : tie.Need-returns-2 Inv-loop μ-loop
 returns-2 c =
     let s = c .before .before .before .before .before .before .before in
     let a = s .args in
-    let w = patternOf (now (a .word)) (a .m) in
+    let w = patternOf (now (a .pattern)) (a .m) in
     let l = c .before .loop in
     let e = headed-done w (now (a .cells)) (s .pre .0) (a .v) (a .k) (l .j) (l .inv) (c .loop-test .left) in
     (omega (arith, e, shown-is w (a .v) (a .k) .within), omega (arith, e), λ g. shown-again w (a .v) (a .k) (l .j) e)

@@ -30,7 +30,7 @@ returns : tie.Need-returns
 returns c =
     let s = c .before .before .before .before .before in
     let a = s .args in
-    let w = patternOf (now (a .word)) (a .m) in
+    let w = patternOf (now (a .pattern)) (a .m) in
     let low : a .j ≤ chained (a .m) = omega (arith, c .before .before .indices .ensures) in
     let e = link-at w (now (a .cells)) (s .pre .0) (a .v) (a .j) (a .j) (sym (s .pre .1 .1 low)) low (omega arith) in
     (omega (arith, e, shown-is w (a .v) (a .j - 1) .within), omega (arith, e), λ g. shown-again w (a .v) (a .j - 1) _ e)
@@ -48,7 +48,7 @@ returns-2 : tie.Need-returns-2
 returns-2 c =
     let s = c .before .before .before .before .before .before in
     let a = s .args in
-    let w = patternOf (now (a .word)) (a .m) in
+    let w = patternOf (now (a .pattern)) (a .m) in
     let last : chained (a .m) ≡ a .j - 1 = omega (arith, c .before .before .before .indices .ensures) in
     let e = s .pre .0 .head-is (a .v) (omega arith) ∙ ap (lastShown w (a .v)) last in
     (omega (arith, e, shown-is w (a .v) (a .j - 1) .within), omega (arith, e), λ g. shown-again w (a .v) (a .j - 1) _ e)
@@ -60,7 +60,7 @@ returns-3 : tie.Need-returns-3
 returns-3 c =
     let s = c .before .before .before .before .before in
     let a = s .args in
-    let w = patternOf (now (a .word)) (a .m) in
+    let w = patternOf (now (a .pattern)) (a .m) in
     (omega arith, shown-is w (a .v) (a .j - 1) .within, λ g. absurd (omega (arith, c .before .before .indices .ensures)))
 
 pub next-link-spec : {M : Type 1} → statement M

@@ -15,10 +15,10 @@ use Rattle.skip.proofs.prepare.Statement.{statement}
 use Rattle.skip.proofs.prepare.Tie as tie
 
 abbrev Inv-loop : tie.InvT-loop
-Inv-loop word m cells₀ count j₀ cells j = (j ≤ count) × Filled (patternOf word m) cells₀ j cells
+Inv-loop pattern m cells₀ count j₀ cells j = (j ≤ count) × Filled (patternOf pattern m) cells₀ j cells
 
 abbrev μ-loop : tie.MeasureT-loop
-μ-loop word m cells₀ count j₀ cells j = m - j
+μ-loop pattern m cells₀ count j₀ cells j = m - j
 
 -- room for the tables at each turn
 room : (c : tie.At-loop Inv-loop μ-loop) → 256 + c .before .before .before .before .before .before .before .before .args .m ≤ length (c .loop .cells)
@@ -45,7 +45,7 @@ loop-holds : tie.Need-loop-holds Inv-loop μ-loop
 loop-holds c =
     let k = c .before .before .before in
     let a = k .before .before .before .before .args in
-    (omega arith, filled-none (patternOf (now (a .word)) (a .m)) (now (a .cells)) (k .clear .last .0) (k .clear .ensures))
+    (omega arith, filled-none (patternOf (now (a .pattern)) (a .m)) (now (a .cells)) (k .clear .last .0) (k .clear .ensures))
 
 add-loop : tie.Need-add-loop Inv-loop μ-loop
 add-loop c = omega (arith, few (c .before))
@@ -86,7 +86,7 @@ returns : tie.Need-returns Inv-loop μ-loop
 returns c =
     let k = c .before .before .before .before .before .before .before .before .before in
     let a = k .before .before .before .before .args in
-    filled-all (patternOf (now (a .word)) (a .m)) (now (a .cells)) _ _ _ (k .clear .ensures) (omega arith)
+    filled-all (patternOf (now (a .pattern)) (a .m)) (now (a .cells)) _ _ _ (k .clear .ensures) (omega arith)
     (filled-then (c .before .before .before .before .before .loop .inv .1) (c .before .before .enter2 .ensures)) (omega (arith, c .before .before .before .before .before .before .indices .ensures))
 
 pub prepare-spec : {M : Type 1} → statement M

@@ -25,14 +25,14 @@ use Rattle.skip.proofs.step.Statement.{statement}
 use Rattle.skip.proofs.step.Tie as tie
 
 abbrev Inv-loop : tie.InvT-loop
-Inv-loop text n word m cells list₀ had at top stop low byte v j₀ hits₀ list j hits =
+Inv-loop text n pattern m cells list₀ had at top stop low byte v j₀ hits₀ list j hits =
     let b = (at + m) / 8 - 1 in
     (j + at ≤ 8 * b + 1)
-    × (j ≤ chained m → lastShown (patternOf word m) v j ≡ j)
-    × Writing list₀ had (occurrences (textOf text n) (patternOf word m) at (8 * b + 1 - j)) list hits
+    × (j ≤ chained m → lastShown (patternOf pattern m) v j ≡ j)
+    × Writing list₀ had (occurrences (textOf text n) (patternOf pattern m) at (8 * b + 1 - j)) list hits
 
 abbrev μ-loop : tie.MeasureT-loop
-μ-loop text n word m cells list₀ had at top stop low byte v j₀ hits₀ list j hits = j
+μ-loop text n pattern m cells list₀ had at top stop low byte v j₀ hits₀ list j hits = j
 
 from-mark : (p j x : ℕ) → j + p ≤ x → p ≤ x - j
 from-mark p j x h = omega arith
@@ -83,7 +83,7 @@ inside c =
 -- the comparison's answer
 stands-at : (c : tie.After-stands Inv-loop μ-loop) (x : Bool) → c .stands .result ≡ x
     → let a = c .before .before .before .before .before .before .before .before .before .before .before .before .args in
-    occurs (textOf (now (a .text)) (a .n)) (patternOf (now (a .word)) (a .m)) (8 * ((a .s .0 + a .m) / 8 - 1) + 1 - c .before .before .loop .j) ≡ x
+    occurs (textOf (now (a .text)) (a .n)) (patternOf (now (a .pattern)) (a .m)) (8 * ((a .s .0 + a .m) / 8 - 1) + 1 - c .before .before .loop .j) ≡ x
 stands-at c x e = compared-place _ _ _ _ _ x (rw (top-is (c .before .before .before .before .before .before)) at (c .stands .ensures)) e (inside (c .before))
 
 last-byte-requires : tie.Need-last-byte-requires Inv-loop μ-loop
@@ -123,7 +123,7 @@ loop-holds c =
     let s = c .before .before .before .before .before .before .before .before .before in
     let a = s .args in
     let t = textOf (now (a .text)) (a .n) in
-    let w = patternOf (now (a .word)) (a .m) in
+    let w = patternOf (now (a .pattern)) (a .m) in
     let b = (a .s .0 + a .m) / 8 - 1 in
     let long : 15 ≤ a .m = ltb-false (a .m) 15 (s .pre .0 .pattern .fit) in
     let e = rw (top-is (c .before .before .before), c .before .before .before .before .last-byte .ensures) at (c .first-link .ensures) in
@@ -166,7 +166,7 @@ returns c =
     let s = c .before .before .before .before .before .before .before .before .before .before .before .before .before .before in
     let a = s .args in
     let t = textOf (now (a .text)) (a .n) in
-    let w = patternOf (now (a .word)) (a .m) in
+    let w = patternOf (now (a .pattern)) (a .m) in
     let b = (a .s .0 + a .m) / 8 - 1 in
     let long : 15 ≤ a .m = ltb-false (a .m) 15 (s .pre .0 .pattern .fit) in
     let found = stands-at (c .before .before) _ (c .before .if1 .taken) in
@@ -202,7 +202,7 @@ loop-again c =
     let s = c .before .before .before .before .before .before .before .before .before .before .before .before .before .before in
     let a = s .args in
     let t = textOf (now (a .text)) (a .n) in
-    let w = patternOf (now (a .word)) (a .m) in
+    let w = patternOf (now (a .pattern)) (a .m) in
     let b = (a .s .0 + a .m) / 8 - 1 in
     let long : 15 ≤ a .m = ltb-false (a .m) 15 (s .pre .0 .pattern .fit) in
     let e = c .next-link .ensures in
@@ -229,7 +229,7 @@ returns-2 c =
     let s = c .before .before .before .before .before .before .before .before .before .before .before in
     let a = s .args in
     let t = textOf (now (a .text)) (a .n) in
-    let w = patternOf (now (a .word)) (a .m) in
+    let w = patternOf (now (a .pattern)) (a .m) in
     let b = (a .s .0 + a .m) / 8 - 1 in
     let long : 15 ≤ a .m = ltb-false (a .m) 15 (s .pre .0 .pattern .fit) in
     let fits = contains-byte w (a .s .0) long (a .s .0) (omega arith) (reaches-byte w (a .s .0) long) in

@@ -18,11 +18,11 @@ use Rattle.wide.proofs.advance.Statement.{statement}
 use Rattle.wide.proofs.advance.Tie as tie
 
 abbrev Inv-loop : tie.InvT-loop
-Inv-loop text n word m h cells budget list₀ had end zero one steps₀ found₀ list steps found =
-    Advanced Wide (textOf text n) (patternOf word m) (found₀ .at .0) budget list₀ had (found .at .0) steps (found .hits) (found .full) list
+Inv-loop text n pattern m h cells budget list₀ had end zero one steps₀ found₀ list steps found =
+    Advanced Wide (textOf text n) (patternOf pattern m) (found₀ .at .0) budget list₀ had (found .at .0) steps (found .hits) (found .full) list
 
 abbrev μ-loop : tie.MeasureT-loop
-μ-loop text n word m h cells budget list₀ had end zero one steps₀ found₀ list steps found = budget - steps
+μ-loop text n pattern m h cells budget list₀ had end zero one steps₀ found₀ list steps found = budget - steps
 
 -- the loop's test
 goes : (full : Bool) (at end steps budget : ℕ) → ((ltb at end && ltb steps budget) && not full) ≡ true → (full ≡ false) × (at < end) × (steps < budget)
@@ -64,7 +64,7 @@ loop-holds : tie.Need-loop-holds Inv-loop μ-loop
 loop-holds c =
     let s = c .before .before .before .before .before .before in
     let a = s .args in
-    advanced-none Wide (textOf (now (a .text)) (a .n)) (patternOf (now (a .word)) (a .m)) (a .s .0) (a .budget) (now (a .list)) (a .had) (s .pre .1 .1 .1) (s .pre .1 .1 .0)
+    advanced-none Wide (textOf (now (a .text)) (a .n)) (patternOf (now (a .pattern)) (a .m)) (a .s .0) (a .budget) (now (a .list)) (a .had) (s .pre .1 .1 .1) (s .pre .1 .1 .0)
 
 next-mark-requires : tie.Need-next-mark-requires Inv-loop μ-loop
 next-mark-requires c κs =
@@ -82,7 +82,7 @@ settle-requires c κs =
     let ready = s .pre .0 in
     let a = s .args in
     let l = c .before .before .before .before .before .before .loop in
-    let w = patternOf (now (a .word)) (a .m) in
+    let w = patternOf (now (a .pattern)) (a .m) in
     let zero = c .before .before .before .before .before .before .before .before .move-of .ensures .move w refl (ready .tables) in
     let one = c .before .before .before .before .before .before .before .move-of2 .ensures .move w refl (ready .tables) in (
       omega (arith, tested (c .before .before .before), ready .pattern .some-bits, ready .pattern .few-bits, ready .few-bits, ready .inside, long (c .before .before .before .before .before .before), l .inv .writing .fits),
@@ -102,7 +102,7 @@ loop-again c =
     let l = c .before .before .before .before .before .before .before .before .before .loop in
     let test = tested (c .before .before .before .before .before .before) in
     let settled = c .before .before .settle in
-    advanced-step Wide (textOf (now (a .text)) (a .n)) (patternOf (now (a .word)) (a .m)) (a .s .0) (a .budget) (now (a .list)) (a .had) (l .found .at .0) (l .steps) (l .found .hits) (l .list) (s .pre .1 .1 .1)
+    advanced-step Wide (textOf (now (a .text)) (a .n)) (patternOf (now (a .pattern)) (a .m)) (a .s .0) (a .budget) (now (a .list)) (a .had) (l .found .at .0) (l .steps) (l .found .hits) (l .list) (s .pre .1 .1 .1)
     (rw (test .0) at (l .inv)) (settled .result .at .0) (settled .result .hits) (settled .result .full) (settled .last .1 .1 .1 .1 .1 .1 .1 .1 .0) (omega (arith, s .pre .0 .inside)) (test .2) (settled .ensures)
 
 same-length : tie.Need-same-length Inv-loop μ-loop

@@ -12,7 +12,7 @@ use Rattle.wide.proofs.entering.Tie as tie
 returns : tie.Need-returns
 returns c =
     let a = c .before .before .args in
-    let w = patternOf (now (a .word)) (a .m) in
+    let w = patternOf (now (a .pattern)) (a .m) in
     (enters-past w 0 (a .q) (omega arith), enters-past w 1 (a .q) (omega arith))
 
 byte-requires : tie.Need-byte-requires
@@ -43,7 +43,7 @@ returns-2 : tie.Need-returns-2
 returns-2 c =
     let s = c .before .before .before .before .before .before in
     let a = s .args in
-    let w = patternOf (now (a .word)) (a .m) in
+    let w = patternOf (now (a .pattern)) (a .m) in
     let byte = c .before .before .before .byte in
     let small = c .before .before .shared-slice-known2 .given (byte .result .0) .fits in
     let pad : Padding (a .m) (a .q) (c .before .if2 .pad)

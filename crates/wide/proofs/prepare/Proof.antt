@@ -12,16 +12,16 @@ use Rattle.wide.proofs.prepare.Statement.{statement}
 use Rattle.wide.proofs.prepare.Tie as tie
 
 abbrev Inv-loop : tie.InvT-loop
-Inv-loop word m cells₀ zero₀ one₀ q₀ cells zero one q =
-    (q ≤ 63 + m) × (q % 8 ≡ 0) × Filled (patternOf word m) cells₀ cells q × Before (patternOf word m) 0 q zero × Before (patternOf word m) 1 q one
+Inv-loop pattern m cells₀ zero₀ one₀ q₀ cells zero one q =
+    (q ≤ 63 + m) × (q % 8 ≡ 0) × Filled (patternOf pattern m) cells₀ cells q × Before (patternOf pattern m) 0 q zero × Before (patternOf pattern m) 1 q one
 
 abbrev μ-loop : tie.MeasureT-loop
-μ-loop word m cells₀ zero₀ one₀ q₀ cells zero one q = 63 + m - q
+μ-loop pattern m cells₀ zero₀ one₀ q₀ cells zero one q = 63 + m - q
 
 loop-holds : tie.Need-loop-holds Inv-loop μ-loop
 loop-holds c =
     let a = c .before .before .args in
-    let w = patternOf (now (a .word)) (a .m) in
+    let w = patternOf (now (a .pattern)) (a .m) in
     (omega arith, omega arith, filled-none w (now (a .cells)), before-none w 0, before-none w 1)
 
 add-loop : tie.Need-add-loop Inv-loop μ-loop
@@ -45,7 +45,7 @@ loop-less c = omega arith
 loop-again : tie.Need-loop-again Inv-loop μ-loop
 loop-again c =
     let a = c .before .before .before .before .before .before .before .before .before .before .before .args in
-    let w = patternOf (now (a .word)) (a .m) in
+    let w = patternOf (now (a .pattern)) (a .m) in
     let l = c .before .before .before .before .before .before .before .before .loop in
     let new = c .before .before .before .before .before .before .entering in
     let made = c .before .before .before .before .enter in (
@@ -75,7 +75,7 @@ same-length c = c .before .before .enter2 .ensures .size ∙ c .before .before .
 returns : tie.Need-returns Inv-loop μ-loop
 returns c =
     let a = c .before .before .before .before .before .before .before .before .args in
-    let w = patternOf (now (a .word)) (a .m) in
+    let w = patternOf (now (a .pattern)) (a .m) in
     let l = c .before .before .before .before .before .loop in
     let made = c .before .before .enter2 in
     let f = filled-more w (now (a .cells)) (l .cells) (made .last .1 .1 .1 .1 .1 .1 .0) (l .q) (a .m + 63 - l .q) (l .zero) (l .one) 255 255 (l .inv .2) (made .ensures)

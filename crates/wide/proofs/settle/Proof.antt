@@ -16,32 +16,32 @@ use Rattle.wide.proofs.settle.Statement.{statement}
 use Rattle.wide.proofs.settle.Tie as tie
 
 abbrev Inv-loop : tie.InvT-loop
-Inv-loop text n word m h to flags list₀ had at₀ f₀ hits₀ list at f hits = Settling (textOf text n) (patternOf word m) at₀ list₀ had list at f hits
+Inv-loop text n pattern m h to flags list₀ had at₀ f₀ hits₀ list at f hits = Settling (textOf text n) (patternOf pattern m) at₀ list₀ had list at f hits
 
 abbrev μ-loop : tie.MeasureT-loop
-μ-loop text n word m h to flags list₀ had at₀ f₀ hits₀ list at f hits = stop (textOf text n) (patternOf word m) at₀ - at
+μ-loop text n pattern m h to flags list₀ had at₀ f₀ hits₀ list at f hits = stop (textOf text n) (patternOf pattern m) at₀ - at
 
 -- the lowest flag is that of a place before the step's last one
 low : (c : tie.In-loop Inv-loop μ-loop)
     → let a = c .before .before .before .before .before .args in
-    c .before .loop .at + trailingZeros 64 (c .before .loop .f) < stop (textOf (now (a .text)) (a .n)) (patternOf (now (a .word)) (a .m)) (a .s .0)
+    c .before .loop .at + trailingZeros 64 (c .before .loop .f) < stop (textOf (now (a .text)) (a .n)) (patternOf (now (a .pattern)) (a .m)) (a .s .0)
 low c =
     let a = c .before .before .before .before .before .args in
     let l = c .before .loop in
-    lowest (textOf (now (a .text)) (a .n)) (patternOf (now (a .word)) (a .m)) (a .s .0) (now (a .list)) (a .had) (omega arith) (l .list) (l .at) (l .f) (l .hits) (l .inv) (c .loop-test .taken)
+    lowest (textOf (now (a .text)) (a .n)) (patternOf (now (a .pattern)) (a .m)) (a .s .0) (now (a .list)) (a .had) (omega arith) (l .list) (l .at) (l .f) (l .hits) (l .inv) (c .loop-test .taken)
 
 -- the list is as long as it was
 long : (c : tie.At-loop Inv-loop μ-loop) → length (c .loop .list) ≡ length (now (c .before .before .before .before .args .list))
 long c =
     let a = c .before .before .before .before .args in
     let l = c .loop in
-    writing-length (now (a .list)) (a .had) (occurrences (textOf (now (a .text)) (a .n)) (patternOf (now (a .word)) (a .m)) (a .s .0) (l .at)) (l .list) (l .hits) (l .inv .writing)
+    writing-length (now (a .list)) (a .had) (occurrences (textOf (now (a .text)) (a .n)) (patternOf (now (a .pattern)) (a .m)) (a .s .0) (l .at)) (l .list) (l .hits) (l .inv .writing)
 
 loop-holds : tie.Need-loop-holds Inv-loop μ-loop
 loop-holds c =
     let s = c .before .before .before in
     let a = s .args in
-    settling-none (textOf (now (a .text)) (a .n)) (patternOf (now (a .word)) (a .m)) (a .s .0) (now (a .list)) (a .had) (omega arith) (a .flags) (s .pre .1 .1 .0) (omega arith)
+    settling-none (textOf (now (a .text)) (a .n)) (patternOf (now (a .pattern)) (a .m)) (a .s .0) (now (a .list)) (a .had) (omega arith) (a .flags) (s .pre .1 .1 .0) (omega arith)
 
 add-p : tie.Need-add-p Inv-loop μ-loop
 add-p c = omega (arith, trailing-le 64 (c .before .loop .f))
@@ -65,7 +65,7 @@ returns : tie.Need-returns Inv-loop μ-loop
 returns c =
     let a = c .before .before .before .before .before .before .before .before .args in
     let l = c .before .before .before .before .loop in
-    settling-full (textOf (now (a .text)) (a .n)) (patternOf (now (a .word)) (a .m)) (a .s .0) (now (a .list)) (a .had) (omega arith) (l .list) (l .at) (l .f) (l .hits) (l .inv) (c .before .before .before .loop-test .taken)
+    settling-full (textOf (now (a .text)) (a .n)) (patternOf (now (a .pattern)) (a .m)) (a .s .0) (now (a .list)) (a .had) (omega arith) (l .list) (l .at) (l .f) (l .hits) (l .inv) (c .before .before .before .loop-test .taken)
     (c .before .before .same .result) (c .before .before .same .ensures) (c .before .if1 .taken) (omega (arith, long (c .before .before .before .before)))
 
 mul-list : tie.Need-mul-list Inv-loop μ-loop
@@ -84,7 +84,7 @@ loop-again : tie.Need-loop-again Inv-loop μ-loop
 loop-again c =
     let a = c .before .before .before .before .before .before .before .before .args in
     let l = c .before .before .before .before .loop in
-    settling-hit (textOf (now (a .text)) (a .n)) (patternOf (now (a .word)) (a .m)) (a .s .0) (now (a .list)) (a .had) (omega arith) (l .list) (l .at) (l .f) (l .hits) (l .inv) (c .before .before .before .loop-test .taken)
+    settling-hit (textOf (now (a .text)) (a .n)) (patternOf (now (a .pattern)) (a .m)) (a .s .0) (now (a .list)) (a .had) (omega arith) (l .list) (l .at) (l .f) (l .hits) (l .inv) (c .before .before .before .loop-test .taken)
     (c .before .before .same .result) (c .before .before .same .ensures) (c .before .if1 .taken) (omega (arith, long (c .before .before .before .before)))
 
 loop-less-2 : tie.Need-loop-less-2 Inv-loop μ-loop
@@ -94,7 +94,7 @@ loop-again-2 : tie.Need-loop-again-2 Inv-loop μ-loop
 loop-again-2 c =
     let a = c .before .before .before .before .before .before .before .args in
     let l = c .before .before .before .loop in
-    settling-miss (textOf (now (a .text)) (a .n)) (patternOf (now (a .word)) (a .m)) (a .s .0) (now (a .list)) (a .had) (omega arith) (l .list) (l .at) (l .f) (l .hits) (l .inv) (c .before .before .loop-test .taken) (c .before .same .result) (c .before .same .ensures) (c .if1 .left)
+    settling-miss (textOf (now (a .text)) (a .n)) (patternOf (now (a .pattern)) (a .m)) (a .s .0) (now (a .list)) (a .had) (omega arith) (l .list) (l .at) (l .f) (l .hits) (l .inv) (c .before .before .loop-test .taken) (c .before .same .result) (c .before .same .ensures) (c .if1 .left)
 
 same-length-2 : tie.Need-same-length-2 Inv-loop μ-loop
 same-length-2 c = long (c .before)
@@ -103,7 +103,7 @@ returns-2 : tie.Need-returns-2 Inv-loop μ-loop
 returns-2 c =
     let a = c .before .before .before .before .before .args in
     let l = c .before .loop in
-    settled (textOf (now (a .text)) (a .n)) (patternOf (now (a .word)) (a .m)) (a .s .0) (now (a .list)) (a .had) (omega arith) (a .to .0) (l .list) (l .at) (l .f) (l .hits) (l .inv) (c .loop-test .left)
+    settled (textOf (now (a .text)) (a .n)) (patternOf (now (a .pattern)) (a .m)) (a .s .0) (now (a .list)) (a .had) (omega arith) (a .to .0) (l .list) (l .at) (l .f) (l .hits) (l .inv) (c .loop-test .left)
     (c .before .before .before .before .before .pre .1 .1 .1)
 
 pub settle-spec : {M : Type 1} → statement M

@@ -29,7 +29,7 @@ settle-requires c κs =
     let s = c .before .before .before .before .before .before .before .before .before in
     let ready = s .pre .0 in
     let a = s .args in
-    let w = patternOf (now (a .word)) (a .m) in
+    let w = patternOf (now (a .pattern)) (a .m) in
     let zero = c .before .before .before .before .move-of .ensures .move w refl (ready .tables) in
     let one = c .before .before .before .move-of2 .ensures .move w refl (ready .tables) in (
       omega (arith, ready .pattern .some-bits, ready .pattern .few-bits, ready .few-bits),

@@ -17,8 +17,8 @@ eight-bits-requires c κs = search needs
 enum-known-found : tie.Need-enum-known-found
 enum-known-found c = search needs
 
-number-of-requires : tie.Need-number-of-requires
-number-of-requires c κs = search needs
+number-requires : tie.Need-number-requires
+number-requires c κs = search needs
 
 enum-known-found-2 : tie.Need-enum-known-found-2
 enum-known-found-2 c = search needs
@@ -34,7 +34,7 @@ unfolding eightTold
 returns-2 c =
     let at = c .before .before .before .before in
     let told = rw (c .before .before .found .given .1) at (at .eight-bits .ensures) in
-    refusal-told (λ v. v) _ _ _ (at .before .if1 .left) (ap eightTells told) (c .number-of .ensures)
+    refusal-told (λ v. v) _ _ _ (at .before .if1 .left) (ap eightTells told) (c .number .ensures)
 
 same-length : tie.Need-same-length
 same-length c = search needs
@@ -53,7 +53,7 @@ mitongory-eight-bits-spec =
     returns
     eight-bits-requires
     enum-known-found
-    number-of-requires
+    number-requires
     enum-known-found-2
     cast-one
     one-requires

@@ -18,8 +18,8 @@ read-requires c κs = search needs
 enum-known-read : tie.Need-enum-known-read
 enum-known-read c = search needs
 
-read-number-requires : tie.Need-read-number-requires
-read-number-requires c κs = search needs
+number-requires : tie.Need-number-requires
+number-requires c κs = search needs
 
 enum-known-read-2 : tie.Need-enum-known-read-2
 enum-known-read-2 c = search needs
@@ -34,7 +34,7 @@ returns-2 : tie.Need-returns-2
 returns-2 c =
     let at = c .before .before .before .before .before .before in
     let told = rw (c .before .before .read2 .given .1) at (at .read .ensures .answer) in
-    read (refusal-filled (at .before .before .if1 .left) (ap countTells told) (at .read .ensures .cells) (c .read-number .ensures))
+    read (refusal-filled (at .before .before .if1 .left) (ap countTells told) (at .read .ensures .cells) (c .number .ensures))
 
 same-length-2 : tie.Need-same-length-2
 same-length-2 c = search needs
@@ -55,7 +55,7 @@ mitongory-list-read-spec =
     returns
     read-requires
     enum-known-read
-    read-number-requires
+    number-requires
     enum-known-read-2
     one-requires
     same-length

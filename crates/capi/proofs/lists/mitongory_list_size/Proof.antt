@@ -17,8 +17,8 @@ size-requires c κs = search needs
 enum-known-needed : tie.Need-enum-known-needed
 enum-known-needed c = search needs
 
-write-number-requires : tie.Need-write-number-requires
-write-number-requires c κs = search needs
+number-requires : tie.Need-number-requires
+number-requires c κs = search needs
 
 enum-known-needed-2 : tie.Need-enum-known-needed-2
 enum-known-needed-2 c = search needs
@@ -31,7 +31,7 @@ unfolding sizeTold
 returns-2 c =
     let at = c .before .before .before .before in
     let told = rw (c .before .before .needed .given .1) at (at .size .ensures) in
-    refusal-told countTells _ _ _ (at .before .if1 .left) (ap countTells told) (c .write-number .ensures)
+    refusal-told countTells _ _ _ (at .before .if1 .left) (ap countTells told) (c .number .ensures)
 
 same-length : tie.Need-same-length
 same-length c = search needs
@@ -50,7 +50,7 @@ mitongory-list-size-spec =
     returns
     size-requires
     enum-known-needed
-    write-number-requires
+    number-requires
     enum-known-needed-2
     one-requires
     returns-2

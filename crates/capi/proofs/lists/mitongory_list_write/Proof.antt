@@ -18,8 +18,8 @@ write-requires c κs = search needs
 enum-known-written : tie.Need-enum-known-written
 enum-known-written c = search needs
 
-write-number-requires : tie.Need-write-number-requires
-write-number-requires c κs = search needs
+number-requires : tie.Need-number-requires
+number-requires c κs = search needs
 
 enum-known-written-2 : tie.Need-enum-known-written-2
 enum-known-written-2 c = search needs
@@ -34,7 +34,7 @@ returns-2 : tie.Need-returns-2
 returns-2 c =
     let at = c .before .before .before .before .before .before in
     let told = rw (c .before .before .written .given .1) at (at .write .ensures .answer) in
-    written (refusal-filled (at .before .before .if1 .left) (ap countTells told) (at .write .ensures .target) (c .write-number .ensures))
+    written (refusal-filled (at .before .before .if1 .left) (ap countTells told) (at .write .ensures .target) (c .number .ensures))
 
 same-length-2 : tie.Need-same-length-2
 same-length-2 c = search needs
@@ -55,7 +55,7 @@ mitongory-list-write-spec =
     returns
     write-requires
     enum-known-written
-    write-number-requires
+    number-requires
     enum-known-written-2
     one-requires
     same-length

@@ -17,8 +17,8 @@ hash-value-requires c κs = search needs
 enum-known-hash : tie.Need-enum-known-hash
 enum-known-hash c = search needs
 
-number-of-requires : tie.Need-number-of-requires
-number-of-requires c κs = search needs
+number-requires : tie.Need-number-requires
+number-requires c κs = search needs
 
 enum-known-hash-2 : tie.Need-enum-known-hash-2
 enum-known-hash-2 c = search needs
@@ -34,7 +34,7 @@ unfolding hashTold
 returns-2 c =
     let at = c .before .before .before .before in
     let told = rw (c .before .before .hash .given .1) at (at .hash-value .ensures) in
-    refusal-told (λ v. v) _ _ _ (at .before .if1 .left) (ap hashTells told) (c .number-of .ensures)
+    refusal-told (λ v. v) _ _ _ (at .before .if1 .left) (ap hashTells told) (c .number .ensures)
 
 same-length : tie.Need-same-length
 same-length c = search needs
@@ -53,7 +53,7 @@ mitongory-hash-value-spec =
     returns
     hash-value-requires
     enum-known-hash
-    number-of-requires
+    number-requires
     enum-known-hash-2
     cast-one
     one-requires

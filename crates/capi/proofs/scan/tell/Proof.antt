@@ -12,8 +12,8 @@ use Rattle.capi.proofs.scan.tell.Tie as tie
 enum-known-outcome : tie.Need-enum-known-outcome
 enum-known-outcome c = search needs
 
-number-of-requires : tie.Need-number-of-requires
-number-of-requires c κs = search needs
+number-requires : tie.Need-number-requires
+number-requires c κs = search needs
 
 enum-known-outcome-2 : tie.Need-enum-known-outcome-2
 enum-known-outcome-2 c = search needs
@@ -43,7 +43,7 @@ slice-write-answer-4 : tie.Need-slice-write-answer-4
 slice-write-answer-4 c = simp length-set (omega arith)
 
 returns : tie.Need-returns
-returns c = rw (c .before .before .outcome .given .1) (record { result-is = c .number-of .ensures; answer-is = refl })
+returns c = rw (c .before .before .outcome .given .1) (record { result-is = c .number .ensures; answer-is = refl })
 
 same-length : tie.Need-same-length
 same-length c = simp length-set refl
@@ -60,7 +60,7 @@ tell-spec =
     tie.close
     (tie.spec
     enum-known-outcome
-    number-of-requires
+    number-requires
     enum-known-outcome-2
     cast-answer
     slice-write-answer

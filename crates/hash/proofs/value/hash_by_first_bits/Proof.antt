@@ -16,16 +16,16 @@ use Rattle.hash.proofs.value.hash_by_first_bits.Statement.{statement}
 use Rattle.hash.proofs.value.hash_by_first_bits.Tie as tie
 
 abbrev Inv-loop : tie.InvT-loop
-Inv-loop word m value first k₀ k = (k ≤ 7) × NoneBelow (patternOf word m) value (m - k)
+Inv-loop pattern m value first k₀ k = (k ≤ 7) × NoneBelow (patternOf pattern m) value (m - k)
 
 abbrev μ-loop : tie.MeasureT-loop
-μ-loop word m value first k₀ k = k
+μ-loop pattern m value first k₀ k = k
 
 -- what the test in the loop says
 tested : (c : tie.In-loop Inv-loop μ-loop)
     → let a = c .before .before .before .before .args in
     let k = c .before .loop .k in
-    (meets (patternOf (now (a .word)) (a .m)) (a .value) (a .m - k) ≡ true)
+    (meets (patternOf (now (a .pattern)) (a .m)) (a .value) (a .m - k) ≡ true)
     ↔ (a .value % ((1 * 2 ^ k) % 2 ^ 32) ≡ c .before .before .byte-at .result / 2 ^ (8 - k))
 tested c =
     let s = c .before .before .before .before in
@@ -33,7 +33,7 @@ tested c =
     let k = c .before .loop .k in
     let enough = long-enough _ (s .pre .0) in
     let few = c .before .loop .inv .0 in
-    shown-first (patternOf (now (a .word)) (a .m)) (a .value) k _ _ (omega arith) (omega arith)
+    shown-first (patternOf (now (a .pattern)) (a .m)) (a .value) k _ _ (omega arith) (omega arith)
     (ap (λ (x : ℕ). a .value % x) (one-shl k (omega arith))) (ap (λ (x : ℕ). x / 2 ^ (8 - k)) (c .before .before .byte-at .ensures))
 
 byte-at-requires : tie.Need-byte-at-requires Inv-loop μ-loop
@@ -64,7 +64,7 @@ returns : tie.Need-returns Inv-loop μ-loop
 returns c =
     let a = c .before .before .before .before .before .args in
     let l = c .before .before .loop in
-    hash-is (patternOf (now (a .word)) (a .m)) (a .value) (a .m - l .k) (l .inv .1) (tested (c .before) .1 (c .if1 .taken))
+    hash-is (patternOf (now (a .pattern)) (a .m)) (a .value) (a .m - l .k) (l .inv .1) (tested (c .before) .1 (c .if1 .taken))
 
 sub-k : tie.Need-sub-k Inv-loop μ-loop
 sub-k c = search needs
@@ -80,7 +80,7 @@ loop-again c =
     let enough = long-enough _ (s .pre .0) in
     let up : a .m - (l .k - 1) ≡ a .m - l .k + 1 = omega arith in (
       omega arith,
-      rw up (none-more (patternOf (now (a .word)) (a .m)) (a .value) (a .m - l .k) (l .inv .1) (λ e. c .if1 .left (tested (c .before) .0 e))),
+      rw up (none-more (patternOf (now (a .pattern)) (a .m)) (a .value) (a .m - l .k) (l .inv .1) (λ e. c .if1 .left (tested (c .before) .0 e))),
     )
 
 returns-2 : tie.Need-returns-2 Inv-loop μ-loop
@@ -88,7 +88,7 @@ returns-2 c =
     let a = c .before .before .before .before .args in
     let l = c .before .loop in
     let all : a .m - l .k ≡ a .m = omega arith in
-    hash-last (patternOf (now (a .word)) (a .m)) (a .value) (a .m) refl (rw all at (l .inv .1))
+    hash-last (patternOf (now (a .pattern)) (a .m)) (a .value) (a .m) refl (rw all at (l .inv .1))
 
 pub hash-by-first-bits-spec : {M : Type 1} → statement M
 hash-by-first-bits-spec =

@@ -12,10 +12,10 @@ use Rattle.hash.proofs.value.hash_of.Statement.{statement}
 use Rattle.hash.proofs.value.hash_of.Tie as tie
 
 abbrev Inv-loop : tie.InvT-loop
-Inv-loop word m value d₀ d = (d + 7 ≤ m) × NoneBelow (patternOf word m) value d
+Inv-loop pattern m value d₀ d = (d + 7 ≤ m) × NoneBelow (patternOf pattern m) value d
 
 abbrev μ-loop : tie.MeasureT-loop
-μ-loop word m value d₀ d = m - d
+μ-loop pattern m value d₀ d = m - d
 
 loop-holds : tie.Need-loop-holds Inv-loop μ-loop
 loop-holds c = (omega (arith, long-enough _ (c .before .pre)), λ e h. absurd (omega arith))
@@ -37,8 +37,8 @@ returns c =
     let s = c .before .before .before .before .before in
     let a = s .args in
     let l = c .before .before .before .loop in
-    hash-is (patternOf (now (a .word)) (a .m)) (a .value) (l .d) (l .inv .1)
-    (shown-whole (patternOf (now (a .word)) (a .m)) (a .value) (l .d) (c .before .before .loop-test .taken) (s .fits .value .fits) .1
+    hash-is (patternOf (now (a .pattern)) (a .m)) (a .value) (l .d) (l .inv .1)
+    (shown-whole (patternOf (now (a .pattern)) (a .m)) (a .value) (l .d) (c .before .before .loop-test .taken) (s .fits .value .fits) .1
     (sym (c .if1 .taken) ∙ c .before .byte-at .ensures))
 
 add-d : tie.Need-add-d Inv-loop μ-loop
@@ -53,9 +53,9 @@ loop-again c =
     let a = s .args in
     let l = c .before .before .before .loop in (
       omega arith,
-      none-more (patternOf (now (a .word)) (a .m)) (a .value) (l .d) (l .inv .1)
+      none-more (patternOf (now (a .pattern)) (a .m)) (a .value) (l .d) (l .inv .1)
           (λ e. c .if1 .left (c .before .byte-at .ensures
-          ∙ sym (shown-whole (patternOf (now (a .word)) (a .m)) (a .value) (l .d) (c .before .before .loop-test .taken) (s .fits .value .fits) .0 e))),
+          ∙ sym (shown-whole (patternOf (now (a .pattern)) (a .m)) (a .value) (l .d) (c .before .before .loop-test .taken) (s .fits .value .fits) .0 e))),
     )
 
 hash-by-first-bits-requires : tie.Need-hash-by-first-bits-requires Inv-loop μ-loop

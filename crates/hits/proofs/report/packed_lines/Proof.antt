@@ -41,11 +41,11 @@ slice-aggregate-pack-3 c = cells 512
 pack-requires-2 : tie.Need-pack-requires-2
 pack-requires-2 c κs = omega arith
 
-array-share-prefix-word-bytes : tie.Need-array-share-prefix-word-bytes
-array-share-prefix-word-bytes c = search needs
+array-share-prefix-pattern-bytes : tie.Need-array-share-prefix-pattern-bytes
+array-share-prefix-pattern-bytes c = search needs
 
-slice-aggregate-word : tie.Need-slice-aggregate-word
-slice-aggregate-word c = search needs
+slice-aggregate-pattern : tie.Need-slice-aggregate-pattern
+slice-aggregate-pattern c = search needs
 
 array-share-prefix-text-bytes : tie.Need-array-share-prefix-text-bytes
 array-share-prefix-text-bytes c = search needs
@@ -62,10 +62,10 @@ same-length c = omega arith
 returns : tie.Need-returns
 returns c =
     let a = c .before .before .before .before .before .before .before .before .before .before .before .before .before .before .before .before .args in
-    let word = c .before .before .before .before .before .before .before .before .before .before .before .pack in
+    let pattern = c .before .before .before .before .before .before .before .before .before .before .before .pack in
     let text = c .before .before .before .before .before .before .before .pack2 in
     let e = c .before .before .four-lines .ensures in
-    (puts-as (packed-printed (a .input .now) (a .m) (a .n) (omega arith) (word .ensures .is) (text .ensures .is)) (e .0), e .1)
+    (puts-as (packed-printed (a .input .now) (a .m) (a .n) (omega arith) (pattern .ensures .is) (text .ensures .is)) (e .0), e .1)
 
 pub packed-lines-spec : {M : Type 1} → statement M
 packed-lines-spec =
@@ -81,8 +81,8 @@ packed-lines-spec =
     part-pack-end
     slice-aggregate-pack-3
     pack-requires-2
-    array-share-prefix-word-bytes
-    slice-aggregate-word
+    array-share-prefix-pattern-bytes
+    slice-aggregate-pattern
     array-share-prefix-text-bytes
     slice-aggregate-text
     four-lines-requires

@@ -39,7 +39,7 @@ same-length : tie.Need-same-length
 same-length c = search needs
 
 -- what the search promised
-made : (c : tie.After-search) → (let a = c .before .before .before .before .before .before .before .args in Call (record { bytes = a .text .now; count = a .n }) (record { bytes = a .word .now; count = a .m }) (a .method) (replicate 4096 0) (replicate 4224 0) (c .search .result) (c .search .last .1 .1 .1 .1 .1 .1 .1 .0) (c .search .last .1 .1 .1 .1 .1 .1 .1 .1 .0))
+made : (c : tie.After-search) → (let a = c .before .before .before .before .before .before .before .args in Call (record { bytes = a .text .now; count = a .n }) (record { bytes = a .pattern .now; count = a .m }) (a .method) (replicate 4096 0) (replicate 4224 0) (c .search .result) (c .search .last .1 .1 .1 .1 .1 .1 .1 .0) (c .search .last .1 .1 .1 .1 .1 .1 .1 .1 .0))
 made c =
     record {
       mark = _;

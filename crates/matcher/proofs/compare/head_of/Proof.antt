@@ -33,8 +33,8 @@ returns c =
     let a = c .before .before .before .args in
     let short : min (a .m) 57 ≡ a .m = omega arith in (
       ap (λ (x : ℕ). x / 2 ^ (64 - a .m)) (c .word-at .ensures)
-          ∙ bits-first (now (a .word)) 0 {j = a .m} {k = 64} (omega arith)
-          ∙ ap (bitsAt (now (a .word)) 0) (sym short),
+          ∙ bits-first (now (a .pattern)) 0 {j = a .m} {k = 64} (omega arith)
+          ∙ ap (bitsAt (now (a .pattern)) 0) (sym short),
       omega arith,
     )
 
@@ -43,8 +43,8 @@ returns-2 c =
     let a = c .before .before .before .args in
     let long : min (a .m) 57 ≡ 57 = omega arith in (
       ap (λ (x : ℕ). x / 2 ^ 7) (c .word-at2 .ensures)
-          ∙ bits-first (now (a .word)) 0 {j = 57} {k = 64} (omega arith)
-          ∙ ap (bitsAt (now (a .word)) 0) (sym long),
+          ∙ bits-first (now (a .pattern)) 0 {j = 57} {k = 64} (omega arith)
+          ∙ ap (bitsAt (now (a .pattern)) 0) (sym long),
       omega arith,
     )
 

@@ -45,7 +45,7 @@ returns c =
     let s = c .before .before .before .before .before .before .before .before .before in
     let a = s .args in
     let ours = first-bits (now (a .text)) (a .s .0) (a .m) _ _ (c .before .before .before .head-inside .ensures) (s .pre .1 .1) in
-    sym (chunk-differs (textOf (now (a .text)) 0) (patternOf (now (a .word)) (a .m)) (a .s .0) 0 (min (a .m) 57) (omega arith)
+    sym (chunk-differs (textOf (now (a .text)) 0) (patternOf (now (a .pattern)) (a .m)) (a .s .0) 0 (min (a .m) 57) (omega arith)
     (λ e. c .if2 .taken (ours ∙ rw (add-zero (a .s .0)) at e ∙ sym (s .pre .1 .0))))
 
 returns-2 : tie.Need-returns-2
@@ -53,10 +53,10 @@ returns-2 c =
     let s = c .before .before .before .before .before .before .before .before .before .before in
     let a = s .args in
     let ours = first-bits (now (a .text)) (a .s .0) (a .m) _ _ (c .before .before .before .before .head-inside .ensures) (s .pre .1 .1) in
-    let same : bitsAt (now (a .text)) (a .s .0 + 0) (min (a .m) 57) ≡ bitsAt (now (a .word)) 0 (min (a .m) 57)
+    let same : bitsAt (now (a .text)) (a .s .0 + 0) (min (a .m) 57) ≡ bitsAt (now (a .pattern)) 0 (min (a .m) 57)
     = rw (add-zero (a .s .0)) (sym ours ∙ c .before .if2 .left ∙ s .pre .1 .0) in
-    sym (to-matches (textOf (now (a .text)) 0) (patternOf (now (a .word)) (a .m)) (a .s .0)
-    (λ j h. chunk-agrees (textOf (now (a .text)) 0) (patternOf (now (a .word)) (a .m)) (a .s .0) 0 (min (a .m) 57) same j (omega arith) (omega arith)))
+    sym (to-matches (textOf (now (a .text)) 0) (patternOf (now (a .pattern)) (a .m)) (a .s .0)
+    (λ j h. chunk-agrees (textOf (now (a .text)) 0) (patternOf (now (a .pattern)) (a .m)) (a .s .0) 0 (min (a .m) 57) same j (omega arith) (omega arith)))
 
 stands-requires : tie.Need-stands-requires
 stands-requires c κs = search needs

@@ -9,10 +9,10 @@ use Rattle.matcher.proofs.compare.stands_inside.Statement.{statement}
 use Rattle.matcher.proofs.compare.stands_inside.Tie as tie
 
 abbrev Inv-loop : tie.InvT-loop
-Inv-loop text word m at o₀ o = Passed text word m at o
+Inv-loop text pattern m at o₀ o = Passed text pattern m at o
 
 abbrev μ-loop : tie.MeasureT-loop
-μ-loop text word m at o₀ o = m - o
+μ-loop text pattern m at o₀ o = m - o
 
 word-inside-requires : tie.Need-word-inside-requires Inv-loop μ-loop
 word-inside-requires c κs = omega (arith, c .before .before .before .pre)

@@ -8,10 +8,10 @@ use Rattle.matcher.proofs.compare.stands_near_end.Statement.{statement}
 use Rattle.matcher.proofs.compare.stands_near_end.Tie as tie
 
 abbrev Inv-loop : tie.InvT-loop
-Inv-loop text word m at i₀ i = Passed text word m at i
+Inv-loop text pattern m at i₀ i = Passed text pattern m at i
 
 abbrev μ-loop : tie.MeasureT-loop
-μ-loop text word m at i₀ i = m - i
+μ-loop text pattern m at i₀ i = m - i
 
 word-at-requires : tie.Need-word-at-requires Inv-loop μ-loop
 word-at-requires c κs = search needs

@@ -6,7 +6,7 @@ use native.Mathlib.Omega.{arith}
 use lib.ListN.{length}
 use Rattle.positions.specs.Promise.{readAnswer, readGives}
 use Rattle.positions.specs.Inner.{readingIn}
-use Rattle.positions.specs.declared.ReadRefusal.the-variants.{FewCells}
+use Rattle.positions.specs.declared.ReadRefusal.the-variants.{CellsMissing}
 use Rattle.positions.proofs.ReadBody.{body-length}
 use Rattle.positions.proofs.Decoded.{decode-fault, decode-few, decode-body, refused-fault, whole-positions, reads-fault, reads-list}
 use borrow.Author.Needs.{needs}
@@ -29,7 +29,7 @@ returns : tie.Need-returns
 returns c =
     let a = c .before .before .before .before .before .before .before .args in
     let e = sym (c .before .before .before .before .read .ensures) ∙ ap (readingIn (a .file .now)) (c .before .before .first2 .given .1) in
-    reads-fault (a .file .now) (a .cells .now) FewCells (decode-few (a .file .now) _ _ _ e (c .if1 .taken))
+    reads-fault (a .file .now) (a .cells .now) CellsMissing (decode-few (a .file .now) _ _ _ e (c .if1 .taken))
 
 judge-requires : tie.Need-judge-requires
 judge-requires c κs = search needs

@@ -4,7 +4,7 @@
 use mathlib.Core.Path.{sym, ap, _∙_}
 use native.Mathlib.Omega.{arith}
 use Rattle.positions.specs.Promise.{refused, sizeGives}
-use Rattle.positions.specs.declared.WriteRefusal.the-variants.{TargetShort}
+use Rattle.positions.specs.declared.WriteRefusal.the-variants.{TargetTooShort}
 use Rattle.positions.proofs.Answers.{counted-rises, refused-falls, write-falling, write-short, writes-refused, writes-bytes}
 use borrow.Author.Needs.{needs}
 use Rattle.positions.proofs.writer.write.Statement.{statement}
@@ -23,7 +23,7 @@ returns : tie.Need-returns
 returns c =
     let a = c .before .before .before .before .before .before .before .args in
     let k = counted-rises (a .list .now) _ (sym (ap sizeGives (c .before .before .needed2 .given .1)) ∙ c .before .before .before .before .size .ensures) in
-    writes-refused (a .list .now) (a .target .now) TargetShort (write-short (a .list .now) _ (k .0) (omega (arith, k .1)))
+    writes-refused (a .list .now) (a .target .now) TargetTooShort (write-short (a .list .now) _ (k .0) (omega (arith, k .1)))
 
 store-requires : tie.Need-store-requires
 store-requires c κs =

@@ -18,7 +18,7 @@ use Rattle.search.proofs.Mark.search.Tie as tie
 asked : tie.Start → Request
 asked s =
     let a = s .args in
-    record { text = textOf (now (a .text)) (a .n); pattern = patternOf (now (a .word)) (a .m); method = a .method; mark = a .self .at .0; budget = a .budget; list = now (a .list); scratch = now (a .scratch) }
+    record { text = textOf (now (a .text)) (a .n); pattern = patternOf (now (a .pattern)) (a .m); method = a .method; mark = a .self .at .0; budget = a .budget; list = now (a .list); scratch = now (a .scratch) }
 
 -- what a call that passed the check may rely on
 may-run : (q : Request) (k : Checked) → checkOf k ≡ checkVerdict (q .text) (q .pattern) (q .method) (q .mark) (q .scratch) → k ≡ Passed

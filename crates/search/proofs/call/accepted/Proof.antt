@@ -22,19 +22,19 @@ returns c =
     let s = c .before .before .before .before .before in
     let a = s .args in
     let text = textOf (now (a .text)) (a .n) in
-    let word = patternOf (now (a .word)) (a .m) in
-    let there : a .mark .at .0 ≡ places text word = omega (arith, s .pre .inside) in
-    let none : eqb (a .mark .at .0) (places text word) ≡ true = eq-eqb _ _ there in
-    leaves-none (a .method) text word (a .mark .at .0) (a .budget) (now (a .list)) (now (a .scratch)) _ (omega (arith, s .pre .inside))
-    (record { steps = refl; hits = refl; mark = refl; ending = rw none })
+    let pattern = patternOf (now (a .pattern)) (a .m) in
+    let there : a .mark .at .0 ≡ places text pattern = omega (arith, s .pre .inside) in
+    let none : eqb (a .mark .at .0) (places text pattern) ≡ true = eq-eqb _ _ there in
+    leaves-none (a .method) text pattern (a .mark .at .0) (a .budget) (now (a .list)) (now (a .scratch)) _ (omega (arith, s .pre .inside))
+    (record { steps = refl; occurrences = refl; mark = refl; ending = rw none })
 
 prepare-requires : tie.Need-prepare-requires
 prepare-requires c κs =
     let s = c .before .before .before .before .before .before in
     let a = s .args in
     let text = textOf (now (a .text)) (a .n) in
-    let word = patternOf (now (a .word)) (a .m) in
-    (s .pre .pattern, omega (arith, tables-fit (a .method) word (s .pre .pattern), s .pre .room))
+    let pattern = patternOf (now (a .pattern)) (a .m) in
+    (s .pre .pattern, omega (arith, tables-fit (a .method) pattern (s .pre .pattern), s .pre .room))
 
 head-of-requires : tie.Need-head-of-requires
 head-of-requires c κs = search needs
@@ -43,7 +43,7 @@ run-requires : tie.Need-run-requires
 run-requires c κs =
     let s = c .before .before .before .before .before .before .before .before .before .before .before .before in
     let a = s .args in
-    let word = patternOf (now (a .word)) (a .m) in
+    let pattern = patternOf (now (a .pattern)) (a .m) in
     let made = c .before .before .before .before .before .prepare .ensures in (
       record {
         few-bits = s .pre .few-bits;
@@ -51,7 +51,7 @@ run-requires c κs =
         pattern = s .pre .pattern;
         inside = c .before .before .before .before .before .before .before .if1 .left;
         tables = made .tables;
-        room = omega (arith, made .size, tables-fit (a .method) word (s .pre .pattern), s .pre .room);
+        room = omega (arith, made .size, tables-fit (a .method) pattern (s .pre .pattern), s .pre .room);
       },
       (c .before .before .head-of .ensures, s .pre .inside),
     )
@@ -64,8 +64,8 @@ answer-requires c κs =
     let s = c .before .before .before .before .before .before .before .before .before .before .before .before .before .before .before in
     let a = s .args in
     let text = textOf (now (a .text)) (a .n) in
-    let word = patternOf (now (a .word)) (a .m) in
-    few-hits (a .method) text word (a .mark .at .0) (a .budget) (now (a .list)) _ _ _ _ _ (s .pre .pattern .fit) (s .pre .inside) (s .pre .few-bits) (s .pre .pattern .some-bits)
+    let pattern = patternOf (now (a .pattern)) (a .m) in
+    few-hits (a .method) text pattern (a .mark .at .0) (a .budget) (now (a .list)) _ _ _ _ _ (s .pre .pattern .fit) (s .pre .inside) (s .pre .few-bits) (s .pre .pattern .some-bits)
     (c .before .before .run .ensures)
 
 same-length : tie.Need-same-length
@@ -79,10 +79,10 @@ returns-2 c =
     let s = c .before .before .before .before .before .before .before .before .before .before .before .before .before .before .before .before in
     let a = s .args in
     let text = textOf (now (a .text)) (a .n) in
-    let word = patternOf (now (a .word)) (a .m) in
-    let end : a .n - a .m + 1 ≡ places text word = omega (arith, c .before .before .before .before .before .before .before .before .before .before .before .if1 .left) in
-    leaves-run (a .method) text word (a .mark .at .0) (a .budget) (now (a .list)) (now (a .scratch)) _ _ _ _ _ _ _
-    (c .before .before .before .run .ensures) (rw end at (c .answer .ensures)) (tables-fit (a .method) word (s .pre .pattern)) (c .before .before .before .before .before .before .before .before .before .prepare .ensures)
+    let pattern = patternOf (now (a .pattern)) (a .m) in
+    let end : a .n - a .m + 1 ≡ places text pattern = omega (arith, c .before .before .before .before .before .before .before .before .before .before .before .if1 .left) in
+    leaves-run (a .method) text pattern (a .mark .at .0) (a .budget) (now (a .list)) (now (a .scratch)) _ _ _ _ _ _ _
+    (c .before .before .before .run .ensures) (rw end at (c .answer .ensures)) (tables-fit (a .method) pattern (s .pre .pattern)) (c .before .before .before .before .before .before .before .before .before .prepare .ensures)
 
 pub accepted-spec : {M : Type 1} → statement M
 accepted-spec =

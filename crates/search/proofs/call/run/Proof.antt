@@ -15,22 +15,22 @@ use Rattle.search.proofs.call.run.Statement.{statement}
 use Rattle.search.proofs.call.run.Tie as tie
 
 abbrev Inv-loop : tie.InvT-loop
-Inv-loop method text n word m h cells budget list₀ end at₀ steps₀ hits₀ list at steps hits =
-    Advanced method (textOf text n) (patternOf word m) at₀ budget list₀ 0 at steps hits false list
+Inv-loop method text n pattern m h cells budget list₀ end at₀ steps₀ hits₀ list at steps hits =
+    Advanced method (textOf text n) (patternOf pattern m) at₀ budget list₀ 0 at steps hits false list
 
 abbrev μ-loop : tie.MeasureT-loop
-μ-loop method text n word m h cells budget list₀ end at₀ steps₀ hits₀ list at steps hits = budget - steps
+μ-loop method text n pattern m h cells budget list₀ end at₀ steps₀ hits₀ list at steps hits = budget - steps
 
 -- the step that a turn begins with
 one : (c : tie.After-moved Inv-loop μ-loop)
     → let a = c .before .before .before .before .before .before .before .before .before .before .before .before .before .args in
     let r = c .before .before .before .step .result in
-    Advanced (a .method) (textOf (now (a .text)) (a .n)) (patternOf (now (a .word)) (a .m)) (a .mark .at .0) (a .budget) (now (a .list)) 0 (r .mark .at .0) (c .before .before .before .before .before .before .before .loop .steps + 1) (r .hits) (r .full) (c .before .before .before .step .last .1 .1 .1 .1 .1 .1 .1 .1 .0)
+    Advanced (a .method) (textOf (now (a .text)) (a .n)) (patternOf (now (a .pattern)) (a .m)) (a .mark .at .0) (a .budget) (now (a .list)) 0 (r .mark .at .0) (c .before .before .before .before .before .before .before .loop .steps + 1) (r .hits) (r .full) (c .before .before .before .step .last .1 .1 .1 .1 .1 .1 .1 .1 .0)
 one c =
     let s = c .before .before .before .before .before .before .before .before .before .before .before .before .before in
     let a = s .args in
     let l = c .before .before .before .before .before .before .before .loop in
-    advanced-step (a .method) (textOf (now (a .text)) (a .n)) (patternOf (now (a .word)) (a .m)) (a .mark .at .0) (a .budget) (now (a .list)) 0 (l .at) (l .steps) (l .hits) (l .list) (omega arith) (l .inv)
+    advanced-step (a .method) (textOf (now (a .text)) (a .n)) (patternOf (now (a .pattern)) (a .m)) (a .mark .at .0) (a .budget) (now (a .list)) 0 (l .at) (l .steps) (l .hits) (l .list) (omega arith) (l .inv)
     _ _ _ _ (omega (arith, c .before .before .before .before .before .before .loop-test .taken, s .pre .0 .inside)) (ltb-true _ _ (c .before .before .before .before .before .if1 .taken)) (c .before .before .before .step .ensures)
 
 sub-end : tie.Need-sub-end Inv-loop μ-loop
@@ -47,7 +47,7 @@ loop-holds : tie.Need-loop-holds Inv-loop μ-loop
 loop-holds c =
     let s = c .before .before .before .before .before in
     let a = s .args in
-    advanced-none (a .method) (textOf (now (a .text)) (a .n)) (patternOf (now (a .word)) (a .m)) (a .mark .at .0) (a .budget) (now (a .list)) 0 (omega arith) (s .pre .1 .1)
+    advanced-none (a .method) (textOf (now (a .text)) (a .n)) (patternOf (now (a .pattern)) (a .m)) (a .mark .at .0) (a .budget) (now (a .list)) 0 (omega arith) (s .pre .1 .1)
 
 step-requires : tie.Need-step-requires Inv-loop μ-loop
 step-requires c κs =
@@ -68,7 +68,7 @@ returns : tie.Need-returns Inv-loop μ-loop
 returns c =
     let a = c .before .before .before .before .before .before .before .before .before .before .before .before .before .before .args in
     let full : c .before .before .before .before .step .result .full ≡ true = search needs in
-    ran-to-cut (a .method) (textOf (now (a .text)) (a .n)) (patternOf (now (a .word)) (a .m)) (a .mark .at .0) (a .budget) (now (a .list)) _ _ _ _ (rw full at (one (c .before)))
+    ran-to-cut (a .method) (textOf (now (a .text)) (a .n)) (patternOf (now (a .pattern)) (a .m)) (a .mark .at .0) (a .budget) (now (a .list)) _ _ _ _ (rw full at (one (c .before)))
 
 sub-advance : tie.Need-sub-advance Inv-loop μ-loop
 sub-advance c = omega (arith, one (c .before) .within)
@@ -84,10 +84,10 @@ advance-requires c κs =
 more : (c : tie.After-struct-known Inv-loop μ-loop)
     → let a = c .before .before .before .before .before .before .before .before .before .before .before .before .before .before .before .before .before .before .before .before .args in
     let r = c .before .before .before .before .advance .result in
-    Advanced (a .method) (textOf (now (a .text)) (a .n)) (patternOf (now (a .word)) (a .m)) (a .mark .at .0) (a .budget) (now (a .list)) 0 (r .at .0) (c .before .before .before .before .before .before .before .before .before .before .before .before .before .before .loop .steps + 1 + r .steps) (r .hits) (r .full) (c .before .before .before .before .advance .last .1 .1 .1 .1 .1 .1 .1 .1 .1 .0)
+    Advanced (a .method) (textOf (now (a .text)) (a .n)) (patternOf (now (a .pattern)) (a .m)) (a .mark .at .0) (a .budget) (now (a .list)) 0 (r .at .0) (c .before .before .before .before .before .before .before .before .before .before .before .before .before .before .loop .steps + 1 + r .steps) (r .hits) (r .full) (c .before .before .before .before .advance .last .1 .1 .1 .1 .1 .1 .1 .1 .1 .0)
 more c =
     let a = c .before .before .before .before .before .before .before .before .before .before .before .before .before .before .before .before .before .before .before .before .args in
-    advanced-join (a .method) (textOf (now (a .text)) (a .n)) (patternOf (now (a .word)) (a .m)) (a .mark .at .0) (a .budget) (now (a .list)) 0 _ (c .before .before .before .before .before .before .before .before .before .before .before .before .before .before .loop .steps + 1) _ _ _ _ _ _ _ (omega arith)
+    advanced-join (a .method) (textOf (now (a .text)) (a .n)) (patternOf (now (a .pattern)) (a .m)) (a .mark .at .0) (a .budget) (now (a .list)) 0 _ (c .before .before .before .before .before .before .before .before .before .before .before .before .before .before .loop .steps + 1) _ _ _ _ _ _ _ (omega arith)
     (rw (c .before .before .before .before .before .before .if2 .left) at (one (c .before .before .before .before .before .before .before))) (c .before .before .before .before .advance .ensures)
 
 add-steps-2 : tie.Need-add-steps-2 Inv-loop μ-loop
@@ -99,7 +99,7 @@ same-length-2 c = writing-length _ 0 (more (c .before) .found) _ _ (more (c .bef
 returns-2 : tie.Need-returns-2 Inv-loop μ-loop
 returns-2 c =
     let a = c .before .before .before .before .before .before .before .before .before .before .before .before .before .before .before .before .before .before .before .before .before .args in
-    ran-to-cut (a .method) (textOf (now (a .text)) (a .n)) (patternOf (now (a .word)) (a .m)) (a .mark .at .0) (a .budget) (now (a .list)) _ _ _ _ (rw (c .if3 .taken) at (more (c .before)))
+    ran-to-cut (a .method) (textOf (now (a .text)) (a .n)) (patternOf (now (a .pattern)) (a .m)) (a .mark .at .0) (a .budget) (now (a .list)) _ _ _ _ (rw (c .if3 .taken) at (more (c .before)))
 
 loop-less : tie.Need-loop-less Inv-loop μ-loop
 loop-less c = omega (arith, more (c .before) .within)
@@ -116,7 +116,7 @@ returns-3 : tie.Need-returns-3 Inv-loop μ-loop
 returns-3 c =
     let a = c .before .before .before .before .before .before .before .before .args in
     let l = c .before .before .loop in
-    ran-to-end (a .method) (textOf (now (a .text)) (a .n)) (patternOf (now (a .word)) (a .m)) (a .mark .at .0) (a .budget) (now (a .list)) (l .list) (l .at) (l .steps) (l .hits) (l .inv)
+    ran-to-end (a .method) (textOf (now (a .text)) (a .n)) (patternOf (now (a .pattern)) (a .m)) (a .mark .at .0) (a .budget) (now (a .list)) (l .list) (l .at) (l .steps) (l .hits) (l .inv)
     (λ _. omega (arith, ltb-false (l .steps) (a .budget) (c .if1 .left), l .inv .within))
 
 same-length-4 : tie.Need-same-length-4 Inv-loop μ-loop
@@ -129,7 +129,7 @@ returns-4 c =
     let s = c .before .before .before .before .before .before .before in
     let a = s .args in
     let l = c .before .loop in
-    ran-to-end (a .method) (textOf (now (a .text)) (a .n)) (patternOf (now (a .word)) (a .m)) (a .mark .at .0) (a .budget) (now (a .list)) (l .list) (l .at) (l .steps) (l .hits) (l .inv)
+    ran-to-end (a .method) (textOf (now (a .text)) (a .n)) (patternOf (now (a .pattern)) (a .m)) (a .mark .at .0) (a .budget) (now (a .list)) (l .list) (l .at) (l .steps) (l .hits) (l .inv)
     (λ h. absurd (omega (arith, c .loop-test .left, s .pre .0 .inside, h)))
 
 pub run-spec : {M : Type 1} → statement M

@@ -12,7 +12,7 @@ use Rattle.search.proofs.check.check.Tie as tie
 
 -- the request as far as a check looks at it
 asked : tie.Start → Request
-asked s = let a = s .args in record { text = textOf (now (a .text)) (a .n); pattern = patternOf (now (a .word)) (a .m); method = a .method; mark = a .mark .0; budget = 0; list = []; scratch = now (a .scratch) }
+asked s = let a = s .args in record { text = textOf (now (a .text)) (a .n); pattern = patternOf (now (a .pattern)) (a .m); method = a .method; mark = a .mark .0; budget = 0; list = []; scratch = now (a .scratch) }
 
 returns : tie.Need-returns
 unfolding asked
