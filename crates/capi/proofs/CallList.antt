@@ -22,7 +22,7 @@ use Rattle.search.specs.declared.Refusal.the-variants.{TextTooLong, TextBytesMi
 use Rattle.search.specs.Verdict.{refused, verdict, numberOfRefusal, Searched}
 use Rattle.search.specs.Calls as library
 use Rattle.search.proofs.Calls as theorem
-use Rattle.capi.specs.Told.{unknownMethod, fewAnswerCells, Tells}
+use Rattle.capi.specs.Told.{unknownMethod, answerCellsMissing, Tells}
 use Rattle.capi.specs.Scan.{Named, known, unknown, methodNamed, stopNumber, requestOf, searchVerdict, Searches}
 use Rattle.capi.specs.Inner.{outcomeTells}
 use Rattle.capi.specs.CallList.{callOf, Made, markAfter, placesIn, stepsIn, stopIn, AllMade, Seen, seenOf, seen, markBy, seenBy, machineSeen, lastMark, joined, allSteps, fullOf, fulls, later, lastStop, Whole}
@@ -112,7 +112,7 @@ module _ (t : Packed) (w : Pattern) (s : ℕ) (c : Made) where
       cells : (x : Method) → methodNamed (c .asked .method) ≡ known x → (b : Bool) → ltb (length (c .asked .answer)) 4 ≡ b → Skipped ⊎ Taken
       cells x e true h =
           let told = rw h at (rw e at (p .tells .result-is)) in
-          inl (skipped fewAnswerCells (rw (e, h) refl) told refl)
+          inl (skipped answerCellsMissing (rw (e, h) refl) told refl)
       cells x e false h =
           let four = ltb-false (length (c .asked .answer)) 4 h in
           let a = as-searched (callOf t w s (c .asked)) x _ _ _ _ e four p in

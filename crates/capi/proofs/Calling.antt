@@ -12,7 +12,7 @@ use Rattle.positions.specs.Basics.{fault}
 use Rattle.positions.specs.Encode.{encode}
 use Rattle.positions.specs.Decode.{decode}
 use Rattle.positions.specs.Promise.{refused, writeAnswer, leaves, readAnswer, readCells}
-use Rattle.capi.specs.Told.{Told, gives, refuses, fewAnswerCells, unknownMethod, unlessCells, Tells}
+use Rattle.capi.specs.Told.{Told, gives, refuses, answerCellsMissing, unknownMethod, unlessCells, Tells}
 use Rattle.capi.specs.Scan.{methodNamed, known, unknown, Call, requestOf, searchVerdict, Searches}
 use Rattle.capi.specs.ListFile.{countTells, writeVerdict, ListWritten, readVerdict, ListRead}
 use Rattle.capi.specs.Inner.{outcomeTells}
@@ -22,8 +22,8 @@ use Rattle.capi.proofs.Telling.{few-cells, enough-cells, refusing}
 
 -- `few` is the verdict where there is no answer cell, `own` that of the call below.
 module _ {A : Type 0} (tell : A → Told) (few own : A) (answer : List ℕ) where
-  pub none-told : length answer < 1 → tell few ≡ refuses fewAnswerCells
-      → Tells (tell (unlessCells 1 answer few own)) answer fewAnswerCells answer
+  pub none-told : length answer < 1 → tell few ≡ refuses answerCellsMissing
+      → Tells (tell (unlessCells 1 answer few own)) answer answerCellsMissing answer
   none-told h e = rw (few-cells 1 answer few own, e) (refusing _ _)
 
   pub refusal-told : {k r : ℕ} → 1 ≤ length answer → refuses k ≡ tell own → r ≡ k
@@ -41,8 +41,8 @@ pub record Filled {A : Type 0} (tell : A → Told) (leave : A → List ℕ) (few
   pub buffer-is : buffer ≡ leave (unlessCells 1 answer few own)
 
 module _ {A : Type 0} {tell : A → Told} {leave : A → List ℕ} {few own : A} {answer : List ℕ} where
-  pub none-filled : length answer < 1 → tell few ≡ refuses fewAnswerCells
-      → Filled tell leave few own answer fewAnswerCells (leave few) answer
+  pub none-filled : length answer < 1 → tell few ≡ refuses answerCellsMissing
+      → Filled tell leave few own answer answerCellsMissing (leave few) answer
   none-filled h e = record { tells = none-told tell few own answer h e; buffer-is = rw (few-cells 1 answer few own) }
 
   pub refusal-filled : {k r : ℕ} {buffer : List ℕ} → 1 ≤ length answer → refuses k ≡ tell own → buffer ≡ leave own → r ≡ k
@@ -56,14 +56,14 @@ module _ {A : Type 0} {tell : A → Told} {leave : A → List ℕ} {few own : A}
       record { tells = number-told tell few own answer h e t; buffer-is = rw (enough-cells 1 answer few own) b }
 
 pub written : {list target answer target′ answer′ : List ℕ} {r : ℕ}
-    → Filled countTells (λ v. leaves v (encode list) target) (refused fewAnswerCells) (writeAnswer list (length target)) answer r
+    → Filled countTells (λ v. leaves v (encode list) target) (refused answerCellsMissing) (writeAnswer list (length target)) answer r
     target′ answer′
     → ListWritten list target answer r target′ answer′
 unfolding writeVerdict
 written f = record { tells = f .tells; target-is = f .buffer-is }
 
 pub read : {file cells answer cells′ answer′ : List ℕ} {r : ℕ}
-    → Filled (λ v. countTells (readAnswer v)) (λ v. readCells v cells) (fault fewAnswerCells) (decode file (length cells))
+    → Filled (λ v. countTells (readAnswer v)) (λ v. readCells v cells) (fault answerCellsMissing) (decode file (length cells))
     answer r cells′ answer′
     → ListRead file cells answer r cells′ answer′
 unfolding readVerdict
@@ -79,7 +79,7 @@ module _ (q : Call) where
       record { tells = rw e (refusing _ _); list-is = rw e; scratch-is = rw e refl }
 
   pub search-short : (x : Method) → methodNamed (q .method) ≡ known x → length (q .answer) < 4
-      → Searches q fewAnswerCells (q .list) (q .scratch) (q .answer)
+      → Searches q answerCellsMissing (q .list) (q .scratch) (q .answer)
   unfolding searchVerdict
   search-short x e h =
       record {

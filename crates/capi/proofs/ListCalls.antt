@@ -18,7 +18,7 @@ use Rattle.positions.specs.declared.ReadAnswer.the-variants.{Count}
 use Rattle.positions.proofs.Answers.{refused-number, write-counted}
 use Rattle.positions.proofs.Decoded.{fault-number}
 use Rattle.positions.proofs.CallToCall.{written-decodes, read-encodes}
-use Rattle.capi.specs.Told.{fewAnswerCells, gives, Tells}
+use Rattle.capi.specs.Told.{answerCellsMissing, gives, Tells}
 use Rattle.capi.specs.ListFile.{countTells, writeVerdict, ListWritten, readVerdict, ListRead, told, Puts}
 use Rattle.capi.proofs.Telling.{enough-cells}
 
@@ -66,7 +66,7 @@ pub write-then-read : {list target answer target′ answer′ cells again cells�
 unfolding readVerdict readAnswer readCells
 write-then-read {list} {target} {answer} {target′} {answer′} {cells} {again} w r h k =
     let d = written-decodes list target target′ (told answer′) (length cells) (as-written w) k in
-    let v = enough-cells 1 again (fault fewAnswerCells) (decode (take (told answer′) target′) (length cells)) h in
+    let v = enough-cells 1 again (fault answerCellsMissing) (decode (take (told answer′) target′) (length cells)) h in
     puts (rw (v, d) at (r .tells)) (rw (v, d) at (r .cells-is))
 
 -- a call of the reader, and then one of the writer on the list that it gave; a slice of `u8` has entries below 256
@@ -79,6 +79,6 @@ read-then-write {file} {cells} {answer} {cells′} {answer′} {target} {again} 
     let f = read-encodes file cells cells′ (told answer′) a (as-read r) in
     let l = take (told answer′) cells′ in
     let room : length (encode l) ≤ length target = rw (← f .bytes-are) k in
-    let v = enough-cells 1 again (refused fewAnswerCells) (writeAnswer l (length target)) h in
+    let v = enough-cells 1 again (refused answerCellsMissing) (writeAnswer l (length target)) h in
     let counted = write-counted l (length target) (f .taken) room in
     rw (f .bytes-are) (puts (rw (v, counted) at (w .tells)) (rw (v, counted) at (w .target-is)))

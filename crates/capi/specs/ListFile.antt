@@ -7,7 +7,7 @@ use Rattle.positions.specs.Basics.{Result, fault}
 use Rattle.positions.specs.Encode.{encode}
 use Rattle.positions.specs.Decode.{decode}
 use Rattle.positions.specs.Promise.{Answer, count, refused, sizeAnswer, writeAnswer, leaves, readAnswer, readCells}
-use Rattle.capi.specs.Told.{fewAnswerCells, Told, gives, refuses, unlessCells, Tells}
+use Rattle.capi.specs.Told.{answerCellsMissing, Told, gives, refuses, unlessCells, Tells}
 
 -- one answer cell: the count
 abbrev pub countTells : Answer → Told
@@ -16,12 +16,12 @@ countTells (count n) = gives (n ∷ [])
 
 -- What `mitongory_list_size` tells: 101 first, then refusal 8, or the byte count.
 unfoldable pub sizeTold : List ℕ → List ℕ → Told
-sizeTold list answer = countTells (unlessCells 1 answer (refused fewAnswerCells) (sizeAnswer list))
+sizeTold list answer = countTells (unlessCells 1 answer (refused answerCellsMissing) (sizeAnswer list))
 
 -- the writer: 101 first, then refusal 8 or 9, or the byte count
 unfoldable pub writeVerdict : List ℕ → List ℕ → List ℕ → Answer
 writeVerdict list target answer =
-    unlessCells 1 answer (refused fewAnswerCells) (writeAnswer list (length target))
+    unlessCells 1 answer (refused answerCellsMissing) (writeAnswer list (length target))
 
 -- The promise of `mitongory_list_write`, for a target and answer cells that are `target′` and `answer′` at exit.
 pub record ListWritten (list target answer : List ℕ) (result : ℕ) (target′ answer′ : List ℕ) : Type 0 where
@@ -31,7 +31,7 @@ pub record ListWritten (list target answer : List ℕ) (result : ℕ) (target′
 -- the reader: 101 first, then refusals 10 to 14, or the list
 unfoldable pub readVerdict : List ℕ → List ℕ → List ℕ → Result (List ℕ)
 readVerdict file cells answer =
-    unlessCells 1 answer (fault fewAnswerCells) (decode file (length cells))
+    unlessCells 1 answer (fault answerCellsMissing) (decode file (length cells))
 
 -- The promise of `mitongory_list_read`, for cells and answer cells that are `cells′` and `answer′` at exit.
 pub record ListRead (file cells answer : List ℕ) (result : ℕ) (cells′ answer′ : List ℕ) : Type 0 where

@@ -9,7 +9,7 @@ use Rattle.rules.specs.declared.Method.{Method}
 use Rattle.rules.specs.declared.Method.the-variants.{Plain, Hash, Skip, Wide}
 use Rattle.rules.specs.Machine.{Ending, done, spent, full, Run}
 use Rattle.search.specs.Verdict.{Request, Verdict, refused, accepted, verdict, hashVerdict, scratchCells}
-use Rattle.capi.specs.Told.{unknownMethod, fewAnswerCells, Told, gives, refuses, unlessCells, Tells}
+use Rattle.capi.specs.Told.{unknownMethod, answerCellsMissing, Told, gives, refuses, unlessCells, Tells}
 
 -- ---- the numbers of the methods and of the ways to stop
 
@@ -61,7 +61,7 @@ requestOf x q =
 -- 100 first, then 101, then the search's own verdict: refusals 1 to 7, or what the machine comes to
 abbrev pub verdictBy : Named → Call → Verdict Run
 verdictBy unknown q = refused unknownMethod
-verdictBy (known x) q = unlessCells 4 (q .answer) (refused fewAnswerCells) (verdict (requestOf x q))
+verdictBy (known x) q = unlessCells 4 (q .answer) (refused answerCellsMissing) (verdict (requestOf x q))
 
 unfoldable pub searchVerdict : Call → Verdict Run
 searchVerdict q = verdictBy (methodNamed (q .method)) q
@@ -98,4 +98,4 @@ hashTells (accepted d) = gives (d ∷ [])
 -- What `mitongory_hash_value` tells: 101 first, then refusals 3 to 5, or H(B).
 unfoldable pub hashTold : List ℕ → ℕ → ℕ → List ℕ → Told
 hashTold pattern m value answer =
-    unlessCells 1 answer (refuses fewAnswerCells) (hashTells (hashVerdict (record { bytes = pattern; count = m }) value))
+    unlessCells 1 answer (refuses answerCellsMissing) (hashTells (hashVerdict (record { bytes = pattern; count = m }) value))

@@ -10,8 +10,8 @@ use lib.ListN.{length, drop}
 abbrev pub unknownMethod : ℕ
 unknownMethod = 100
 
-abbrev pub fewAnswerCells : ℕ
-fewAnswerCells = 101
+abbrev pub answerCellsMissing : ℕ
+answerCellsMissing = 101
 
 -- an accepted call gives numbers for its answer cells, a refused one the number of the refusal
 pub data Told : Type 0 where

@@ -1,4 +1,5 @@
 // Eight bits from a bit number, by themselves.
+use crate::ANSWER_CELLS_MISSING;
 use crate::cells;
 use bits::Place;
 use bits::eight;
@@ -12,7 +13,7 @@ pub extern "C" fn mitongory_eight_bits(bytes: &[u8], n: u64, place: u32, answer:
     ensures { λ r. ⌜ Tells (eightTold (now (bytes .entry)) n place (now (answer .entry))) (now (answer .entry)) r (now (answer .exit)) ⌝ }
 {
     if answer.len() < 1 {
-        return 101;
+        return ANSWER_CELLS_MISSING;
     }
     let found = eight::eight_bits(bytes, n, Place(place));
     match found {

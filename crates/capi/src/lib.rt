@@ -6,3 +6,8 @@ mod eight;
 mod lists;
 mod scan;
 mod version;
+
+// Two results that document 01 does not have: its calls take a method and not a number, and give an answer back.
+const UNKNOWN_METHOD: u32 = 100;
+
+const ANSWER_CELLS_MISSING: u32 = 101;

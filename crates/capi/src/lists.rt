@@ -1,4 +1,5 @@
 // The position list file: the byte count that a list needs, the writer and the reader.
+use crate::ANSWER_CELLS_MISSING;
 use crate::cells;
 use positions::ByteCount;
 use positions::ReadAnswer;
@@ -12,7 +13,7 @@ pub extern "C" fn mitongory_list_size(list: &[u32], answer: &mut [u64]) -> u32
     ensures { λ r. ⌜ Tells (sizeTold (now (list .entry)) (now (answer .entry))) (now (answer .entry)) r (now (answer .exit)) ⌝ }
 {
     if answer.len() < 1 {
-        return 101;
+        return ANSWER_CELLS_MISSING;
     }
     let needed = positions::size(list);
     match needed {
@@ -27,7 +28,7 @@ pub extern "C" fn mitongory_list_write(list: &[u32], target: &mut [u8], answer: 
     ensures { λ r. ⌜ ListWritten (now (list .entry)) (now (target .entry)) (now (answer .entry)) r (now (target .exit)) (now (answer .exit)) ⌝ }
 {
     if answer.len() < 1 {
-        return 101;
+        return ANSWER_CELLS_MISSING;
     }
     let written = positions::write(list, target);
     match written {
@@ -42,7 +43,7 @@ pub extern "C" fn mitongory_list_read(file: &[u8], cells: &mut [u32], answer: &m
     ensures { λ r. ⌜ ListRead (now (file .entry)) (now (cells .entry)) (now (answer .entry)) r (now (cells .exit)) (now (answer .exit)) ⌝ }
 {
     if answer.len() < 1 {
-        return 101;
+        return ANSWER_CELLS_MISSING;
     }
     let read = positions::read(file, cells);
     match read {

@@ -1,4 +1,6 @@
 // The search call, and H(B) by itself.
+use crate::ANSWER_CELLS_MISSING;
+use crate::UNKNOWN_METHOD;
 use crate::cells;
 use bits::Place;
 use search::Mark;
@@ -81,10 +83,10 @@ pub extern "C" fn mitongory_search(
 {
     let named = method_of(method);
     let Named::Known(known) = named else {
-        return 100;
+        return UNKNOWN_METHOD;
     };
     if answer.len() < 4 {
-        return 101;
+        return ANSWER_CELLS_MISSING;
     }
     let from = Mark { at: Place(mark) };
     let outcome = from.search(text, n, pattern, m, known, budget, list, scratch);
@@ -97,7 +99,7 @@ pub extern "C" fn mitongory_hash_value(pattern: &[u8], m: u64, value: u8, answer
     ensures { λ r. ⌜ Tells (hashTold (now (pattern .entry)) m value (now (answer .entry))) (now (answer .entry)) r (now (answer .exit)) ⌝ }
 {
     if answer.len() < 1 {
-        return 101;
+        return ANSWER_CELLS_MISSING;
     }
     let hash = hash_value::hash_value(pattern, m, value);
     match hash {

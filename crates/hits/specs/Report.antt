@@ -1,8 +1,18 @@
 -- What the functions of the program promise each other.
-use Prim.Native.Nat.{ℕ}
+use Prim.Native.Nat.{ℕ, _+_, _*_}
 use Rattle.search.specs.declared.Outcome.{Outcome}
 use Rattle.search.specs.declared.Outcome.the-variants.{Accepted, Refused}
 use Rattle.search.specs.Verdict.{numberOfRefusal}
+
+-- how many places there are at most, how many bytes a line takes then (28 and eleven for each place), and four of them
+abbrev pub placesMost : ℕ
+placesMost = 4096
+
+abbrev pub lineMost : ℕ
+lineMost = 45084
+
+abbrev pub printedMost : ℕ
+printedMost = 180336
 
 -- the number of a refused call; an accepted one has none, which is 0 here
 abbrev pub numberIn : Outcome → ℕ

@@ -5,10 +5,15 @@ mod report;
 use libc::STDIN_FILENO;
 use libc::STDOUT_FILENO;
 
+// One byte more than the longest good input: longer input fills the buffer, and is bad.
+const INPUT: usize = 6147;
+
+// Four lines with 4,096 places each.
+const PRINTED: usize = 180336;
+
 fn main() {
-    // One byte more than the longest good input: longer input fills the buffer, and is bad.
-    let mut input = [0u8; 6147];
-    let mut out = [0u8; 180336];
+    let mut input = [0u8; INPUT];
+    let mut out = [0u8; PRINTED];
     let k = io::read_full(STDIN_FILENO, &mut input);
     let r = report::report(&input[..k], &mut out);
     if !io::write_all(STDOUT_FILENO, &out[..r]) {

@@ -12,10 +12,15 @@ ghost use lib.ListN.{length, take};
 ghost use Rattle.io.specs.Counts.{Counts};
 ghost use Rattle.lines.specs.Inner.{Puts, Sized, inputIn};
 ghost use Rattle.hits.specs.Printed.{searchLine, fourLines, printedOf, printed};
-ghost use Rattle.hits.specs.Report.{numberIn};
+ghost use Rattle.hits.specs.Report.{numberIn, placesMost, lineMost, printedMost};
 
 // "budget 2^32 − 1"
 const BUDGET: u32 = 4294967295;
+
+// A cell for each place, and the scratch that a search asks.
+const CELLS: usize = 4096;
+
+const SCRATCH: usize = 4224;
 
 // The number of a refused call; an accepted one has none.
 fn number_in(outcome: Outcome) -> u32
@@ -38,12 +43,12 @@ fn search_line(
     out: &mut [u8],
     at: usize,
 ) -> usize
-    requires { ⌜ (1 + n - m ≤ 4096) × (at + 45084 ≤ length (now out)) ⌝ }
+    requires { ⌜ (1 + n - m ≤ placesMost) × (at + lineMost ≤ length (now out)) ⌝ }
     ensures is { λ r. ⌜ Puts (now (out .entry)) at (searchLine (record { bytes = now (text .entry); count = n }) (record { bytes = now (pattern .entry); count = m }) method) r (now (out .exit)) ⌝ }
-    ensures short { λ r. ⌜ r ≤ at + 45084 ⌝ }
+    ensures short { λ r. ⌜ r ≤ at + lineMost ⌝ }
 {
-    let mut list = [0u32; 4096];
-    let mut scratch = [0u64; 4224];
+    let mut list = [0u32; CELLS];
+    let mut scratch = [0u64; SCRATCH];
     let outcome = Mark::new().search(text, n, pattern, m, method, BUDGET, &mut list, &mut scratch);
     let Outcome::Accepted(answer) = outcome else {
         return line::refused(out, at, method, number_in(outcome));
@@ -53,9 +58,9 @@ fn search_line(
 
 // Stores the lines of the four methods.
 fn four_lines(text: &[u8], n: u64, pattern: &[u8], m: u64, out: &mut [u8]) -> usize
-    requires { ⌜ (1 + n - m ≤ 4096) × (180336 ≤ length (now out)) ⌝ }
+    requires { ⌜ (1 + n - m ≤ placesMost) × (printedMost ≤ length (now out)) ⌝ }
     ensures is { λ r. ⌜ Puts (now (out .entry)) 0 (fourLines (record { bytes = now (text .entry); count = n }) (record { bytes = now (pattern .entry); count = m })) r (now (out .exit)) ⌝ }
-    ensures short { λ r. ⌜ r ≤ 180336 ⌝ }
+    ensures short { λ r. ⌜ r ≤ printedMost ⌝ }
 {
     let a = search_line(text, n, pattern, m, Method::Plain, out, 0);
     let b = search_line(text, n, pattern, m, Method::Hash, out, a);
@@ -65,9 +70,9 @@ fn four_lines(text: &[u8], n: u64, pattern: &[u8], m: u64, out: &mut [u8]) -> us
 
 // Packs a pattern of m characters and a text of n, which start and end the input, and stores their lines.
 fn packed_lines(input: &[u8], m: usize, n: usize, out: &mut [u8]) -> usize
-    requires { ⌜ Sized (now input) (Input.Lines m n) × (180336 ≤ length (now out)) ⌝ }
+    requires { ⌜ Sized (now input) (Input.Lines m n) × (printedMost ≤ length (now out)) ⌝ }
     ensures is { λ r. ⌜ Puts (now (out .entry)) 0 (printedOf (inputIn (now (input .entry)) (Input.Lines m n))) r (now (out .exit)) ⌝ }
-    ensures short { λ r. ⌜ r ≤ 180336 ⌝ }
+    ensures short { λ r. ⌜ r ≤ printedMost ⌝ }
 {
     let mut pattern_bytes = [0u8; 256];
     let mut text_bytes = [0u8; 512];
@@ -83,7 +88,7 @@ fn packed_lines(input: &[u8], m: usize, n: usize, out: &mut [u8]) -> usize
 // Stores what is printed for the input, the four lines or that it is bad, to the front of `out`, and gives how many bytes
 // that is.
 pub(crate) fn report(input: &[u8], out: &mut [u8]) -> usize
-    requires { ⌜ 180336 ≤ length (now out) ⌝ }
+    requires { ⌜ printedMost ≤ length (now out) ⌝ }
     ensures counts { λ r. ⌜ Counts r (now (out .exit)) ⌝ }
     ensures is { λ r. ⌜ take r (now (out .exit)) ≡ printed (now (input .entry)) ⌝ }
 {
