@@ -1,9 +1,10 @@
 #!/usr/bin/env python3
-"""Runs every example of docs/GUIDE.md: what stands in a fenced block is held to the library, to the program `hits` or to
-document 01's rules. Each kind of block has a function below; a block of another kind, or with a line that no function reads,
-is a failure. Prints one line with the number of checks, or what differs and exits with 1.
+"""Runs every example of docs/GUIDE.md and README.md: what stands in a fenced block is held to the library, to the program
+`hits` or to document 01's rules, or is a command whose output follows it. Each kind of block has a function below; a block of
+another kind, or with a line that no function reads, is a failure. Prints one line with the number of checks, or what differs
+and exits with 1.
 
-usage: guide.py [GUIDE]"""
+usage: guide.py [PAGE...]"""
 
 import ctypes
 import os
@@ -13,13 +14,13 @@ import sys
 import tempfile
 
 ROOT = os.path.dirname(os.path.dirname(os.path.abspath(__file__)))
-GUIDE = os.path.join(ROOT, "docs", "GUIDE.md")
+PAGES = ["docs/GUIDE.md", "README.md"]
 ARCHIVE = os.path.join(ROOT, "target", "lib", "libmitongory.a")
 HITS = os.path.join(ROOT, "target", "bin")
 METHODS = ["plain", "hash", "skip", "wide"]
 STOPS = ["done", "full", "spent"]
 ALL = 2**32 - 1
-SECONDS = 60
+SECONDS = 300
 
 checks = 0
 
@@ -209,31 +210,39 @@ def blocks(page):
         sys.exit("tests/guide.py: the block of line %d has no end" % (start + 1))
 
 
+SIMPLE = {"packed": packed, "calls": calls, "rows": rows, "hash": hash_values, "file": files, "console": console}
+
+
+def run(page, folder):
+    with open(os.path.join(ROOT, page), encoding="utf-8") as f:
+        text = f.read()
+    pending = None
+    for number, kind, block in blocks(text):
+        where = "%s, line %d" % (page, number)
+        if pending and kind != ["output"]:
+            sys.exit("tests/guide.py: %s: the program before has no output block" % where)
+        if len(kind) == 1 and kind[0] in SIMPLE:
+            SIMPLE[kind[0]]([line for line in block if line], where)
+        elif kind[:1] == ["steps"]:
+            steps(block, where, kind[1])
+        elif kind == ["c"]:
+            pending = block
+        elif kind == ["output"]:
+            program(pending, where, folder, block)
+            pending = None
+        elif kind not in (["rust"], ["text"]):  # examples of the Rust documentation, which runs them; and no example
+            sys.exit("tests/guide.py: %s: no test runs a block of the kind '%s'" % (where, " ".join(kind)))
+    if pending:
+        sys.exit("tests/guide.py: %s: the last program has no output block" % page)
+
+
 def main():
     global library
-    page = open(sys.argv[1] if len(sys.argv) > 1 else GUIDE, encoding="utf-8").read()
     with tempfile.TemporaryDirectory() as folder:
         library = Library(folder)
-        pending = None
-        for number, kind, block in blocks(page):
-            where = "line %d" % number
-            simple = {"packed": packed, "calls": calls, "rows": rows, "hash": hash_values, "file": files, "console": console}
-            if pending and kind != ["output"]:
-                sys.exit("tests/guide.py: %s: the program before has no output block" % where)
-            if len(kind) == 1 and kind[0] in simple:
-                simple[kind[0]]([line for line in block if line], where)
-            elif kind[:1] == ["steps"]:
-                steps(block, where, kind[1])
-            elif kind == ["c"]:
-                pending = block
-            elif kind == ["output"]:
-                program(pending, where, folder, block)
-                pending = None
-            elif kind != ["rust"]:  # those are run as examples of the Rust crate's documentation
-                sys.exit("tests/guide.py: %s: no test runs a block of the kind '%s'" % (where, " ".join(kind)))
-        if pending:
-            sys.exit("tests/guide.py: the last program has no output block")
-    print("guide: %d checks" % checks)
+        for page in sys.argv[1:] or PAGES:
+            run(page, folder)
+    print("guide.py: %d checks" % checks)
 
 
 main()

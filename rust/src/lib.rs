@@ -155,7 +155,8 @@ pub use text::Text;
 #[doc = include_str!("../README.md")]
 struct Readme;
 
-/// And those of the guide.
+/// And those of the repository's guide and first page.
 #[cfg(doctest)]
 #[doc = include_str!("../../docs/GUIDE.md")]
+#[doc = include_str!("../../README.md")]
 struct Guide;
