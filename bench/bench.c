@@ -1,7 +1,7 @@
 // Measures the library against the same rules in C and against naive Rust, on the same data in the same run.
 //   bench check [ROUNDS]    small drawn inputs, every answer held to a bit-by-bit reading of the rules
 //   bench texts [BITS_LOG2] searches in texts with 50, 70 and 90 % zeros, nanoseconds for each bit
-//   bench hard              searches on texts and words on which little is ruled out early
+//   bench hard              searches on texts and patterns on which little is ruled out early
 //   bench short             calls with a budget of one step, nanoseconds for a call
 //   bench files             the position list file, nanoseconds for a position
 //   bench all               all of the timed parts

@@ -34,14 +34,14 @@ struct input {
     size_t n, m;
 };
 
-// A text and a word of it or near it, of 5 to 50 % ones.
-static struct input input(uint8_t *text, uint8_t *word, int large, int front) {
+// A text and a pattern of it or near it, of 5 to 50 % ones.
+static struct input input(uint8_t *text, uint8_t *pattern, int large, int front) {
     struct input x;
     size_t ones = 1 + below(10);
     x.n = below(large ? 6000 : 301);
     x.m = 1 + below(large ? 2048 : below(3) ? 80 : 240);
     x.t = lent(text, (x.n + 7) / 8, front);
-    x.w = lent(word, (x.m + 7) / 8, front);
+    x.w = lent(pattern, (x.m + 7) / 8, front);
     for (size_t i = 0; i < (x.n + 7) / 8 * 8; i++) set_bit(x.t, i, below(20) < ones);
     for (size_t i = 0; i < (x.m + 7) / 8 * 8; i++) set_bit(x.w, i, below(20) < ones);
     if (x.m <= x.n && below(4)) {
@@ -86,9 +86,9 @@ static void check_call(struct input x, int method, size_t mark, size_t budget, s
     }
 }
 
-// Worked examples: text, word, cells, and steps, mark and hits of each method (steps -1: not tried).
+// Worked examples: text, pattern, cells, and steps, mark and hits of each method (steps -1: not tried).
 struct paper {
-    const char *text, *word;
+    const char *text, *pattern;
     size_t cells;
     struct {
         long steps, mark, hits;
@@ -114,8 +114,8 @@ static void check_papers(void) {
         for (int method = 0; method < 4; method++)
             for (int who = 0; who < 3 && papers[i].want[method].steps >= 0; who++) {
                 const struct paper *p = papers + i;
-                size_t n = strlen(p->text), m = strlen(p->word);
-                pack(t, p->text), pack(w, p->word);
+                size_t n = strlen(p->text), m = strlen(p->pattern);
+                pack(t, p->text), pack(w, p->pattern);
                 if (who == 0)
                     rules_search(t, n, w, m, method, 0, 4294967295u, list, p->cells, &got);
                 else if (who == 1)
@@ -134,7 +134,7 @@ static void check_refusals(void) {
     static uint64_t scratch[CELLS];
     uint32_t list[4];
     static const struct {
-        uint64_t n, text, m, word, mark, cells;
+        uint64_t n, text, m, pattern, mark, cells;
         int method, want;
     } rows[] = {
         {1073741825, 0, 0, 0, 9, 0, HASH, 1}, {~0ull, 0, ~0ull, 0, 9, 0, HASH, 1}, {9, 1, 0, 0, 99, 0, HASH, 2},
@@ -146,7 +146,7 @@ static void check_refusals(void) {
     };
     for (size_t i = 0; i < sizeof rows / sizeof *rows; i++) {
         uint64_t o[4];
-        uint32_t got = mitongory_search(t, rows[i].text, rows[i].n, w, rows[i].word, rows[i].m, rows[i].method, rows[i].mark, 1,
+        uint32_t got = mitongory_search(t, rows[i].text, rows[i].n, w, rows[i].pattern, rows[i].m, rows[i].method, rows[i].mark, 1,
                                     list, 4, scratch, rows[i].cells, o, 4);
         if (got != (uint32_t)rows[i].want) {
             printf("refusal row %zu: %u, should be %d\n", i, got, rows[i].want);
@@ -188,14 +188,14 @@ static long check_files(long rounds) {
 }
 
 int check(long rounds) {
-    uint8_t *text = room(), *word = room(), *lists = room(), *cell_room = room();
+    uint8_t *text = room(), *pattern = room(), *lists = room(), *cell_room = room();
     long calls = 0;
     check_papers();
     check_refusals();
     long files = check_files(rounds * 1000);
     for (long r = 0; r < rounds; r++) {
         int large = r % 4 == 3;
-        struct input x = input(text, word, large, below(2));
+        struct input x = input(text, pattern, large, below(2));
         size_t end = x.m <= x.n ? x.n - x.m + 1 : 0;
         for (int method = 0; method < 4; method++) {
             if (!takes(method, x.m)) continue;

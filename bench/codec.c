@@ -34,7 +34,7 @@ uint32_t c_list_write(const uint32_t *list, size_t count, uint8_t *target, size_
     return 0;
 }
 
-// A number at *at, which moves behind it; or its fault. Most numbers are one byte.
+// A number at *at, which moves past it; or its fault. Most numbers are one byte.
 static inline uint32_t take(const uint8_t *file, size_t len, size_t *at, uint32_t *x) {
     size_t from = *at;
     if (from >= len) return 10;

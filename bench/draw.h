@@ -1,4 +1,4 @@
-// Draws texts, words and position lists, always the same ones; and reads and sets their bits.
+// Draws texts, patterns and position lists, always the same ones; and reads and sets their bits.
 #ifndef DRAW_H
 #define DRAW_H
 #include <stddef.h>
@@ -18,7 +18,7 @@ void pack(uint8_t *s, const char *bits);
 // A text of n bits, so many of a hundred of them zeros; n is a multiple of 8.
 void draw_text(uint8_t *t, size_t n, unsigned zeros);
 
-// A word of m bits from any place of the text.
+// A pattern of m bits from any place of the text.
 void draw_word(uint8_t *w, size_t m, const uint8_t *t, size_t n);
 
 // A list of so many positions with distances of 1 to the widest.

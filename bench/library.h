@@ -6,11 +6,11 @@
 
 enum { CELLS = MITONGORY_SCRATCH_CELLS };
 
-// Text and word have just the bytes that their bits need.
-static inline void library_search(const uint8_t *text, uint64_t n, const uint8_t *word, uint64_t m, int method, uint32_t mark,
+// Text and pattern have just the bytes that their bits need.
+static inline void library_search(const uint8_t *text, uint64_t n, const uint8_t *pattern, uint64_t m, int method, uint32_t mark,
                                   uint32_t budget, uint32_t *list, size_t cells, uint64_t *scratch, struct answer *out) {
     uint64_t a[MITONGORY_ANSWER_CELLS] = {0};
-    uint32_t refused = mitongory_search(text, (n + 7) / 8, n, word, (m + 7) / 8, m, method, mark, budget, list, cells, scratch,
+    uint32_t refused = mitongory_search(text, (n + 7) / 8, n, pattern, (m + 7) / 8, m, method, mark, budget, list, cells, scratch,
                                         CELLS, a, MITONGORY_ANSWER_CELLS);
     *out = (struct answer){refused, a[MITONGORY_STEPS], a[MITONGORY_OCCURRENCES], a[MITONGORY_MARK], a[MITONGORY_STOP]};
 }

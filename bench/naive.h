@@ -5,7 +5,7 @@
 #include <stdint.h>
 
 // All hits to the list, which has a cell for each; returns their number.
-size_t naive_search(const uint8_t *text, size_t n, const uint8_t *word, size_t m, uint32_t *list, size_t cells);
+size_t naive_search(const uint8_t *text, size_t n, const uint8_t *pattern, size_t m, uint32_t *list, size_t cells);
 
 // The file of a list, or the list of a file: the byte count or the list's count, or SIZE_MAX where there is none.
 size_t naive_write(const uint32_t *list, size_t count, uint8_t *target, size_t len);

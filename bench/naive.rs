@@ -6,10 +6,10 @@ fn bit(bytes: &[u8], p: usize) -> bool {
     bytes[p / 8] >> (7 - p % 8) & 1 == 1
 }
 
-fn search(text: &[u8], n: usize, word: &[u8], m: usize, list: &mut [u32]) -> usize {
+fn search(text: &[u8], n: usize, pattern: &[u8], m: usize, list: &mut [u32]) -> usize {
     let mut hits = 0;
     for s in 0..(n + 1).saturating_sub(m) {
-        if (0..m).all(|j| bit(text, s + j) == bit(word, j)) {
+        if (0..m).all(|j| bit(text, s + j) == bit(pattern, j)) {
             list[hits] = s as u32;
             hits += 1;
         }
@@ -84,19 +84,19 @@ pub unsafe extern "C" fn naive_search(
     list: *mut u32,
     cells: usize,
 ) -> usize {
-    let (text, word) = (slice::from_raw_parts(t, n.div_ceil(8)), slice::from_raw_parts(w, m.div_ceil(8)));
-    search(text, n, word, m, slice::from_raw_parts_mut(list, cells))
+    let (text, pattern) = (slice::from_raw_parts(t, n.div_ceil(8)), slice::from_raw_parts(w, m.div_ceil(8)));
+    search(text, n, pattern, m, slice::from_raw_parts_mut(list, cells))
 }
 
 /// # Safety
-/// Each pointer has as many elements as the number behind it says.
+/// Each pointer has as many elements as the number after it says.
 #[no_mangle]
 pub unsafe extern "C" fn naive_write(list: *const u32, count: usize, target: *mut u8, len: usize) -> usize {
     write(slice::from_raw_parts(list, count), slice::from_raw_parts_mut(target, len)).unwrap_or(usize::MAX)
 }
 
 /// # Safety
-/// Each pointer has as many elements as the number behind it says.
+/// Each pointer has as many elements as the number after it says.
 #[no_mangle]
 pub unsafe extern "C" fn naive_read(file: *const u8, len: usize, cells: *mut u32, count: usize) -> usize {
     read(slice::from_raw_parts(file, len), slice::from_raw_parts_mut(cells, count)).unwrap_or(usize::MAX)

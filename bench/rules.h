@@ -5,7 +5,7 @@
 
 extern const char *const method_names[4];
 
-// Whether a method takes words of m bits.
+// Whether a method takes patterns of m bits.
 int takes(int method, size_t m);
 
 // What a call answers.

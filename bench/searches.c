@@ -10,11 +10,11 @@
 #include <stdlib.h>
 #include <string.h>
 
-enum { METHODS = 4, CONTENDERS = 2 * METHODS + 1, LOOP = 2 * METHODS, WORDS = 2, ALL = -1 };
+enum { METHODS = 4, CONTENDERS = 2 * METHODS + 1, LOOP = 2 * METHODS, PATTERNS = 2, ALL = -1 };
 
 static uint64_t scratch[CELLS];
 
-// A text and a word, and what each contender found: the library's methods, then the yardstick's, then the naive loop. That
+// A text and a pattern, and what each contender found: the library's methods, then the yardstick's, then the naive loop. That
 // one takes the same time for each bit of any such text, and long; so it gets the text's first eighth.
 struct job {
     const uint8_t *t, *w;
@@ -70,11 +70,11 @@ static void measure(struct job *job, double seconds, double *sums) {
     for (int i = 0; i < CONTENDERS; i++) sums[i] += best[i] / (i == LOOP ? job->n / 8 : job->n);
 }
 
-// A row for each method that takes the word.
-static void rows(const char *what, size_t m, const double *sums, int words) {
+// A row for each method that takes the pattern.
+static void rows(const char *what, size_t m, const double *sums, int patterns) {
     for (int method = 0; method < METHODS; method++) {
         if (!takes(method, m)) continue;
-        double ns[SIDES] = {sums[method] / words, sums[METHODS + method] / words, sums[LOOP] / words};
+        double ns[SIDES] = {sums[method] / patterns, sums[METHODS + method] / patterns, sums[LOOP] / patterns};
         char name[80];
         snprintf(name, sizeof name, "%s | %s", what, method_names[method]);
         row(name, ns);
@@ -96,14 +96,14 @@ void time_texts(int log2) {
         for (size_t k = 0; k < sizeof lengths / sizeof *lengths; k++) {
             double sums[CONTENDERS] = {0};
             progress("searching: %u %% zeros, m = %zu", zeros[z], lengths[k]);
-            for (int word = 0; word < WORDS; word++) {
+            for (int pattern = 0; pattern < PATTERNS; pattern++) {
                 draw_word(w, lengths[k], t, n);
                 struct job job = {.t = t, .w = w, .n = n, .m = lengths[k], .cells = cells, .list = list};
                 measure(&job, 3.5, sums);
             }
             char what[16];
             snprintf(what, sizeof what, "%zu", lengths[k]);
-            rows(what, lengths[k], sums, WORDS);
+            rows(what, lengths[k], sums, PATTERNS);
         }
     }
     printf("\n### All rows\n");
@@ -111,14 +111,14 @@ void time_texts(int log2) {
     free(t), free(list);
 }
 
-// Texts and words on which little is ruled out early.
+// Texts and patterns on which little is ruled out early.
 void time_hard(void) {
     static const size_t lengths[] = {15, 64, 2048};
-    static const char *const kinds[] = {"zeros, word of zeros", "zeros, word ends in 1", "zeros, word begins with 1", "period 6"};
+    static const char *const kinds[] = {"zeros, pattern of zeros", "zeros, pattern ends in 1", "zeros, pattern begins with 1", "period 6"};
     size_t n = 1 << 19;
     uint8_t *t = malloc(n / 8), w[256];
     uint32_t *list = calloc(n, sizeof *list);
-    head(" text and word | m | method | library | C | naive Rust | library / C | naive / library ");
+    head(" text and pattern | m | method | library | C | naive Rust | library / C | naive / library ");
     for (int kind = 0; kind < 4; kind++) {
         progress("hard texts: %s", kinds[kind]);
         for (size_t k = 0; k < 3; k++) {

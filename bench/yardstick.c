@@ -39,21 +39,21 @@ static inline unsigned bits8(const uint8_t *s, size_t p) {
 
 static inline unsigned bit(const uint8_t *s, size_t p) { return s[p >> 3] >> (7 - (p & 7)) & 1; }
 
-// The head is the first 57 bits, or all of a shorter word: what eight bytes show at any place.
-struct word {
+// The head is the first 57 bits, or all of a shorter pattern: what eight bytes show at any place.
+struct pattern {
     const uint8_t *bytes;
     size_t m, len;
     uint64_t head;
     unsigned cut;
 };
 
-static struct word word_of(const uint8_t *bytes, size_t m) {
-    struct word w = {bytes, m, (m + 7) / 8, 0, m < 57 ? 64 - m : 7};
+static struct pattern pattern_of(const uint8_t *bytes, size_t m) {
+    struct pattern w = {bytes, m, (m + 7) / 8, 0, m < 57 ? 64 - m : 7};
     w.head = bytes64(bytes, w.len, 0) >> w.cut;
     return w;
 }
 
-static int __attribute__((noinline)) same_rest(const uint8_t *t, size_t len, const struct word *w, size_t s) {
+static int __attribute__((noinline)) same_rest(const uint8_t *t, size_t len, const struct pattern *w, size_t s) {
     if (w->m <= 64) return (bits64(t, len, s) ^ bytes64(w->bytes, w->len, 0)) >> (64 - w->m) == 0;
     size_t o = 0;
     for (; o + 64 < w->m; o += 64)
@@ -61,7 +61,7 @@ static int __attribute__((noinline)) same_rest(const uint8_t *t, size_t len, con
     return bits64(t, len, s + w->m - 64) == bits64(w->bytes, w->len, w->m - 64);
 }
 
-static inline int same(const uint8_t *t, size_t len, const struct word *w, size_t s) {
+static inline int same(const uint8_t *t, size_t len, const struct pattern *w, size_t s) {
     size_t b = s >> 3;
     if (b + 8 <= len) {
         if (be64(t + b) << (s & 7) >> w->cut != w->head) return 0;
@@ -71,7 +71,7 @@ static inline int same(const uint8_t *t, size_t len, const struct word *w, size_
 }
 
 // Plain: rows of 64-bit pieces, cell 16 k + i a row's, 16 k + 8 + i its mask.
-static void plain_tables(const struct word *w, uint64_t *c) {
+static void plain_tables(const struct pattern *w, uint64_t *c) {
     uint64_t x0 = 0, mask0 = 0;
     for (size_t k = 0; 64 * k < w->m + 7; k++) {
         size_t left = 64 * k < w->m ? w->m - 64 * k : 0;
@@ -103,7 +103,7 @@ static inline size_t plain_next(const uint8_t *t, size_t len, const uint64_t *c,
     return limit;
 }
 
-static struct run plain(const uint8_t *t, size_t len, const struct word *w, const uint64_t *c, size_t from,
+static struct run plain(const uint8_t *t, size_t len, const struct pattern *w, const uint64_t *c, size_t from,
                         size_t limit, uint32_t *list, size_t cells) {
     size_t hits = 0;
     for (size_t s = plain_next(t, len, c, from, limit); s < limit; s = plain_next(t, len, c, s + 1, limit))
@@ -115,7 +115,7 @@ static struct run plain(const uint8_t *t, size_t len, const struct word *w, cons
 }
 
 // Hash: cell B the move after reading B.
-static void hash_tables(const struct word *w, uint64_t *c) {
+static void hash_tables(const struct pattern *w, uint64_t *c) {
     for (size_t i = 0; i < 256; i++) c[i] = w->m;
     for (size_t k = 1; k < 8; k++)
         for (size_t i = w->bytes[0] >> (8 - k); i < 256; i += (size_t)1 << k) c[i] = w->m - k;
@@ -127,7 +127,7 @@ static void hash_tables(const struct word *w, uint64_t *c) {
     for (; p + 8 < w->m; p++) c[bits8(w->bytes, p)] = w->m - 8 - p;
 }
 
-static struct run hash(const uint8_t *t, size_t len, const struct word *w, const uint64_t *c, size_t from, size_t end,
+static struct run hash(const uint8_t *t, size_t len, const struct pattern *w, const uint64_t *c, size_t from, size_t end,
                        size_t budget, uint32_t *list, size_t cells) {
     unsigned last = bits8(w->bytes, w->m - 8);
     size_t s = from, steps = 0, hits = 0, e8 = w->m - 8;
@@ -144,7 +144,7 @@ static struct run hash(const uint8_t *t, size_t len, const struct word *w, const
 }
 
 // Skip: cell B one more than the greatest index of B, cell 256 + j the next lower one.
-static void skip_tables(const struct word *w, size_t count, uint64_t *c) {
+static void skip_tables(const struct pattern *w, size_t count, uint64_t *c) {
     memset(c, 0, 256 * sizeof *c);
     size_t j = 0;
     for (; j + 8 <= count; j += 8) {
@@ -162,7 +162,7 @@ static void skip_tables(const struct word *w, size_t count, uint64_t *c) {
     }
 }
 
-static struct run skip_go(const uint8_t *t, size_t len, const struct word *w, const uint64_t *c, size_t from, size_t end,
+static struct run skip_go(const uint8_t *t, size_t len, const struct pattern *w, const uint64_t *c, size_t from, size_t end,
                           size_t budget, uint32_t *list, size_t cells, size_t hits) {
     size_t s = from, steps = 0, stride = (w->m + 1) / 8 - 1;
     for (size_t b = (s + w->m) / 8 - 1; s < end && steps < budget; b += stride) {
@@ -182,7 +182,7 @@ static struct run skip_go(const uint8_t *t, size_t len, const struct word *w, co
 }
 
 // The first step goes from any mark and has a table of its own, of the indices that it can need.
-static struct run skip(const uint8_t *t, size_t len, const struct word *w, uint64_t *c, size_t from, size_t end,
+static struct run skip(const uint8_t *t, size_t len, const struct pattern *w, uint64_t *c, size_t from, size_t end,
                        size_t budget, uint32_t *list, size_t cells) {
     skip_tables(w, (from + w->m) / 8 * 8 - 7 - from, c);
     struct run r = skip_go(t, len, w, c, from, end, budget < 1 ? 0 : 1, list, cells, 0);
@@ -194,7 +194,7 @@ static struct run skip(const uint8_t *t, size_t len, const struct word *w, uint6
 }
 
 // Wide: cell 2 q + c the flags that stand when window bit q is c.
-static void wide_tables(const struct word *w, uint64_t *c) {
+static void wide_tables(const struct pattern *w, uint64_t *c) {
     uint64_t zero = ~0ull, one = ~0ull;
     size_t q = 0;
     for (; q + 8 <= w->m; q += 8)
@@ -214,7 +214,7 @@ static void wide_tables(const struct word *w, uint64_t *c) {
     }
 }
 
-static size_t wide_move(const struct word *w, unsigned c) {
+static size_t wide_move(const struct pattern *w, unsigned c) {
     size_t k = w->m;
     while (k && bit(w->bytes, k - 1) != c) k--;
     return w->m + 64 - k;
@@ -226,7 +226,7 @@ static inline uint64_t wide_keep(const uint8_t *t, const uint64_t *c, size_t s, 
     return f;
 }
 
-// Some bits of a window that lies whole in the text: enough to leave few flags. A word below 64 bits needs the whole
+// Some bits of a window that lies whole in the text: enough to leave few flags. A pattern below 64 bits needs the whole
 // window, every second byte and then the others; a longer one the bits from the middle on, which speak for all flags.
 static inline uint64_t wide_scan(const uint8_t *t, size_t m, const uint64_t *c, size_t s) {
     uint64_t f = ~0ull;
@@ -239,7 +239,7 @@ static inline uint64_t wide_scan(const uint8_t *t, size_t m, const uint64_t *c, 
     return f;
 }
 
-static struct run wide(const uint8_t *t, size_t len, size_t n, const struct word *w, const uint64_t *c, size_t from,
+static struct run wide(const uint8_t *t, size_t len, size_t n, const struct pattern *w, const uint64_t *c, size_t from,
                        size_t end, size_t budget, uint32_t *list, size_t cells) {
     size_t move[2] = {wide_move(w, 0), wide_move(w, 1)}, ws = w->m + 63;
     size_t s = from, steps = 0, hits = 0;
@@ -264,10 +264,10 @@ static struct run wide(const uint8_t *t, size_t len, size_t n, const struct word
     return (struct run){s < end ? s : end, steps, hits, 0};
 }
 
-void c_search(const uint8_t *text, uint64_t n, const uint8_t *word, uint64_t m, int method, uint32_t mark,
+void c_search(const uint8_t *text, uint64_t n, const uint8_t *pattern, uint64_t m, int method, uint32_t mark,
               uint32_t budget, uint32_t *list, size_t cells, uint64_t *scratch, struct answer *out) {
     size_t len = (n + 7) / 8, end = m <= n ? n - m + 1 : 0;
-    struct word w = word_of(word, m);
+    struct pattern w = pattern_of(pattern, m);
     struct run r;
     if (method == PLAIN) {
         plain_tables(&w, scratch);

@@ -16,6 +16,6 @@ struct answer {
 };
 
 // A search call; scratch has 4,224 cells or more.
-void c_search(const uint8_t *text, uint64_t n, const uint8_t *word, uint64_t m, int method, uint32_t mark,
+void c_search(const uint8_t *text, uint64_t n, const uint8_t *pattern, uint64_t m, int method, uint32_t mark,
               uint32_t budget, uint32_t *list, size_t cells, uint64_t *scratch, struct answer *out);
 #endif

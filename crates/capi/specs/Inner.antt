@@ -10,7 +10,7 @@ use Rattle.capi.specs.Told.{Told, gives, refuses}
 use Rattle.capi.specs.Scan as scan
 use Rattle.capi.specs.Scan.{stopNumber}
 
--- what the code found behind a method's number
+-- what the code found for a method's number
 abbrev pub namedBy : Named → scan.Named
 namedBy (code.Known x) = scan.known x
 namedBy code.Unknown = scan.unknown

@@ -1,4 +1,4 @@
-// The four methods behind one small interface, chosen by `Method`: make the tables, make one step from any
+// The four methods under one small interface, chosen by `Method`: make the tables, make one step from any
 // mark, make many.
 use bits::Place;
 use matcher::Advance;

@@ -18,7 +18,7 @@ use Rattle.matcher.specs.Progress.{Writing, Advanced}
 use Rattle.search.specs.Parts.{Ran, endingAt}
 use Rattle.matcher.proofs.Progress.{run-to-budget, run-to-end}
 
--- what is written stands in front, and the cells behind it are as they were
+-- what is written stands in front, and the cells after it are as they were
 pub writing-front : (before found list : List ℕ) (hits : ℕ) → Writing before 0 found list hits → list ≡ found ++ drop (length found) before
 writing-front before found list hits u =
     u .cells ∙ sets-eq found before 0 (omega (arith, u .count, u .fits)) ∙ ap (λ (n : ℕ). found ++ drop n before) (zero-add (length found))

@@ -20,7 +20,7 @@ pub struct Left {
 }
 
 // Steps from the mark until the places, the budget or the cells of the list are at an end: one from the mark, wherever it
-// is, and many behind it. The tables are made.
+// is, and many after it. The tables are made.
 pub fn run(
     mark: Mark,
     method: Method,

@@ -1,4 +1,4 @@
--- `search::call::run` meets its contract: each turn is one step and many behind it, by the laws of steps made one behind the other.
+-- `search::call::run` meets its contract: each turn is one step and many after it, by the laws of steps made one after the other.
 -- Assumes nothing.
 use mathlib.Core.Path.{_≡_, refl, _∙_}
 use mathlib.Core.Bool.{true, false}
@@ -80,7 +80,7 @@ advance-requires c κs =
     let same = writing-length _ 0 (made .found) _ _ (made .writing) in
     (s .pre .0, (s .pre .1 .0, (made .inside refl, omega (arith, same, made .writing .fits))))
 
--- that step and those behind it
+-- that step and those after it
 more : (c : tie.After-struct-known Inv-loop μ-loop)
     → let a = c .before .before .before .before .before .before .before .before .before .before .before .before .before .before .before .before .before .before .before .before .args in
     let r = c .before .before .before .before .advance .result in
