@@ -45,7 +45,7 @@ fn stop_of(stop: Stop) -> u64
     }
 }
 
-// The number of an outcome; an accepted one's steps, hits, mark and stop go to the first four cells.
+// The number of an outcome; an accepted one's steps, occurrences, mark and stop go to the first four cells.
 fn tell(outcome: Outcome, answer: &mut [u64]) -> u32
     requires { ⌜ 4 ≤ length (now answer) ⌝ }
     ensures { λ r. ⌜ Tells (outcomeTells outcome) (now (answer .entry)) r (now (answer .exit)) ⌝ }

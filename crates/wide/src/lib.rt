@@ -272,7 +272,7 @@ pub fn step(
     settle(text, n, pattern, m, h, s, to, flags, list, had)
 }
 
-// Many steps with their list, until the budget is used up, a hit finds no free cell, or no place is left. Both moves are
+// Many steps with their list, until the budget is used up, an occurrence finds no free cell, or no place is left. Both moves are
 // made once for all of them.
 pub fn advance(
     text: &[u8],
