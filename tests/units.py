@@ -81,7 +81,7 @@ def conversions(text):
     lines = code(text)
     constants = {}
     for line in lines:
-        named = re.match(r"\s*(?:pub\s+)?const\s+(\w+)\s*:[^=]*=\s*%s%s\s*;" % (NUMBER, CAST), line)
+        named = re.match(r"\s*(?:pub(?:\([^)]*\))?\s+)?const\s+(\w+)\s*:[^=]*=\s*%s%s\s*;" % (NUMBER, CAST), line)
         if named:
             constants[named.group(1)] = value(named.group(2))
     numbers = "\n".join(plain_numbers(line, constants) for line in lines)
@@ -114,6 +114,7 @@ BAD = [
     "let p = p & !7;",
     "let b = (n + 7) / 0x08; // ceil",
     "const BYTE: u32 = 8;\nlet b = p / BYTE;",
+    "pub(crate) const BYTE: u32 = 8;\nlet b = p / BYTE;",
     "    ensures { λ r. ⌜ r ≡ x ⌝ } { x / 8 }",
     "let s = b\"//\"; let b = p / 8;",
     "let p = 8\n    * b;",

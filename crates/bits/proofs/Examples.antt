@@ -2,7 +2,7 @@
 -- Assumes nothing.
 use mathlib.Core.Path.{_≡_, refl}
 use mathlib.Core.List.{List, [], _∷_}
-use Prim.Native.Nat.{ℕ, _^_}
+use Prim.Native.Nat.{ℕ}
 use Rattle.bits.specs.Packed.{Packed, bitAt, bitsAt}
 use Rattle.bits.specs.Eight.{eightAt, byte, number}
 

@@ -1,10 +1,10 @@
 -- The bit of weight 2^i in a number: of a shift, of a remainder, of `and` and `or`; and that a number is its bits.
 -- Assumes nothing.
-use mathlib.Core.Path.{_≡_, refl, sym, _∙_, ap}
+use mathlib.Core.Path.{_≡_, sym, _∙_, ap}
 use Prim.Native.Nat.{ℕ, zero, suc, _+_, _-_, _*_, _/_, _%_, _^_, _≤_, _<_, min, max}
 use native.Mathlib.Omega.{arith}
-use native.Mathlib.Nat.{add-suc, pow-suc, div-one, zero-div, div-eq-of-lt, lt-of-lt-of-le, mul-assoc}
-use native.Mathlib.Numerals.{add-one, one-add}
+use native.Mathlib.Nat.{div-one, div-eq-of-lt, lt-of-lt-of-le}
+use native.Mathlib.Numerals.{add-one}
 use lib.Bits.{bitAnd, bitOr, and-step, or-step, and-shr, or-shr}
 use lib.Pow.{pow-mono, pow-add, shr-shr, shl-shr, shr-lt, field, mod-mod-pow}
 use Rattle.bits.specs.Packed.{weight}

@@ -31,7 +31,7 @@ impl Place {
 }
 
 impl ByteNo {
-    // The leftmost bit of the byte. For the matchers, whose bytes lie within a text.
+    // The leftmost bit of the byte. For callers whose bytes lie below 2^29.
     pub fn place(self) -> Place
         requires { ⌜ self .0 < 2 ^ 29 ⌝ }
         ensures { λ r. ⌜ r .0 ≡ self .0 * 8 ⌝ }

@@ -1,4 +1,4 @@
--- The promise of the search call for C leaves nothing open. Where the method is known and there are four answer cells it
+-- The promise of the search call for C leaves nothing open but the first 4,224 cells of the scratch after an accepted call. Where the method is known and there are four answer cells it
 -- is the promise of the library's search call; so the theorem about every list of calls (`whole` of the search crate) is
 -- about calls from C too.
 -- Assumes nothing.
@@ -11,7 +11,7 @@ use Rattle.rules.specs.Machine.{Run}
 use Rattle.search.specs.declared.Outcome.{Outcome}
 use Rattle.search.specs.declared.Outcome.the-variants.{Accepted, Refused}
 use Rattle.search.specs.Verdict.{Verdict, refused, accepted, Searched}
-use Rattle.search.proofs.Answers.{Answered, answered}
+use Rattle.search.proofs.Answers.{answered}
 use Rattle.capi.specs.Told.{Tells}
 use Rattle.capi.specs.Scan.{methodNamed, known, Call, requestOf, searchVerdict, ScratchAfter, Searches}
 use Rattle.capi.specs.Inner.{outcomeTells}

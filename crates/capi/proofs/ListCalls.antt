@@ -10,7 +10,7 @@ use lib.Dec.{ltb}
 use lib.ListN.{length, take, drop}
 use lib.Pow.{areBytes}
 use Rattle.positions.specs.Basics.{Result, ok, fault}
-use Rattle.positions.specs.Encode.{encode}
+use Rattle.positions.specs.Encode.{encode, rising}
 use Rattle.positions.specs.Decode.{decode}
 use Rattle.positions.specs.Promise.{Answer, count, refused, writeAnswer, leaves, Writes, readAnswer, readCells, Reads}
 use Rattle.positions.specs.declared.Written.the-variants.{Bytes}
@@ -69,11 +69,12 @@ write-then-read {list} {target} {answer} {target′} {answer′} {cells} {again}
     let v = enough-cells 1 again (fault answerCellsMissing) (decode (take (told answer′) target′) (length cells)) h in
     puts (rw (v, d) at (r .tells)) (rw (v, d) at (r .cells-is))
 
--- a call of the reader, and then one of the writer on the list that it gave; a slice of `u8` has entries below 256
+-- a call of the reader, and then one of the writer on the list that it gave, which rises; a slice of `u8` has entries below 256
 pub read-then-write : {file cells answer cells′ answer′ target again target′ again′ : List ℕ} {result : ℕ} → areBytes file ≡ true
     → ListRead file cells answer 0 cells′ answer′
     → ListWritten (take (told answer′) cells′) target again result target′ again′
-    → 1 ≤ length again → length file ≤ length target → Puts file target result target′ again′
+    → 1 ≤ length again → length file ≤ length target
+    → (rising (take (told answer′) cells′) ≡ true) × Puts file target result target′ again′
 unfolding writeVerdict leaves
 read-then-write {file} {cells} {answer} {cells′} {answer′} {target} {again} a r w h k =
     let f = read-encodes file cells cells′ (told answer′) a (as-read r) in
@@ -81,4 +82,4 @@ read-then-write {file} {cells} {answer} {cells′} {answer′} {target} {again} 
     let room : length (encode l) ≤ length target = rw (← f .bytes-are) k in
     let v = enough-cells 1 again (refused answerCellsMissing) (writeAnswer l (length target)) h in
     let counted = write-counted l (length target) (f .taken) room in
-    rw (f .bytes-are) (puts (rw (v, counted) at (w .tells)) (rw (v, counted) at (w .target-is)))
+    (f .taken, rw (f .bytes-are) (puts (rw (v, counted) at (w .tells)) (rw (v, counted) at (w .target-is))))

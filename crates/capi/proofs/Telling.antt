@@ -6,7 +6,7 @@ use mathlib.Core.List.{List, [], _∷_}
 use native.Mathlib.Omega.{arith}
 use lib.ListN.{length, set}
 use borrow.Author.Tests.{lt-ltb, le-ltb}
-use Rattle.capi.specs.Told.{Told, gives, refuses, answerAfter, unlessCells, Tells}
+use Rattle.capi.specs.Told.{gives, refuses, answerAfter, unlessCells, Tells}
 
 pub one-cell : (l : List ℕ) (a : ℕ) → 1 ≤ length l → set l 0 a ≡ answerAfter (gives (a ∷ [])) l
 one-cell [] a h = absurd (omega arith)

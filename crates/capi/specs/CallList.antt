@@ -1,5 +1,5 @@
--- A list of search calls as C makes them, on one text and one word; and the claim about every such list in what C sees:
--- results, answer cells and the fronts of the lists (demand 3).
+-- A list of search calls as C makes them, on one text and one pattern; and the claim about every such list in what C sees:
+-- results, answer cells, lists and marks (demand 3).
 use Prim.Native.Nat.{ℕ, _+_, _≤_, _<_}
 use mathlib.Core.Path.{_≡_}
 use mathlib.Core.Bool.{cond}

@@ -1,6 +1,5 @@
 -- What the contracts of the private functions cite: no public promise rests on it.
-use Prim.Native.Nat.{ℕ}
-use mathlib.Core.List.{List, [], _∷_}
+use mathlib.Core.List.{[], _∷_}
 use Rattle.search.specs.declared.Outcome.{Outcome}
 use Rattle.search.specs.declared.Outcome.the-variants.{Accepted, Refused}
 use Rattle.search.specs.Verdict.{numberOfRefusal, endingOf}

@@ -62,7 +62,7 @@ pub fn stay64(s: &[u64], from: usize, x: usize) -> bool {
     true
 }
 
-// Whether the first cells, so many, hold `first` and what is so far apart.
+// Whether the first cells, so many, hold first, first + apart, first + 2 apart and so on.
 pub fn listed(list: &[u32], hits: usize, first: usize, apart: usize) -> bool {
     let mut p = first;
     let mut i: usize = 0;

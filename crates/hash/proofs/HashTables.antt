@@ -100,8 +100,8 @@ module _ (cells : List ℕ) (size k : ℕ) (room : size + k ≤ length cells) (i
       ∙ getD-take k cells i 0 h
 
 -- the cells after a copy
-pub paste-behind : (cells : List ℕ) (size n : ℕ) → size + size ≤ length cells → size + size ≤ n → drop n (paste cells size cells size) ≡ drop n cells
-paste-behind cells size n room h =
+pub paste-rest : (cells : List ℕ) (size n : ℕ) → size + size ≤ length cells → size + size ≤ n → drop n (paste cells size cells size) ≡ drop n cells
+paste-rest cells size n room h =
     let parts : n ≡ (size + size) + (n - (size + size)) = omega arith in
     rw parts
     (sym (drop-drop (n - (size + size)) (size + size) (paste cells size cells size))
@@ -131,7 +131,7 @@ pub record Ends (w : Pattern) (before cells : List ℕ) (size k : ℕ) : Type 0 
   pub power : size ≡ 2 ^ (k - 1)
   pub moves : Moves w size (suc (w .count) - k) k cells
   pub same-size : length cells ≡ length before
-  pub behind : drop 256 cells ≡ drop 256 before
+  pub rest : drop 256 cells ≡ drop 256 before
 
 -- before the first turn
 pub ends-none : (w : Pattern) (cells : List ℕ) → 256 ≤ length cells → Ends w (set cells 0 (w .count)) (set cells 0 (w .count)) 1 1
@@ -143,7 +143,7 @@ ends-none w cells room =
       power = refl;
       moves = λ B l. rw all (moves-last w cells (omega arith) B l);
       same-size = refl;
-      behind = refl;
+      rest = refl;
     }
 
 module _ (w : Pattern) (long : 8 ≤ w .count) (before : List ℕ) (room : 256 ≤ length before) where
@@ -170,8 +170,8 @@ module _ (w : Pattern) (long : 8 ≤ w .count) (before : List ℕ) (room : 256 �
     doubled-size : length (paste cells size cells size) ≡ length before
     doubled-size = length-paste cells size cells size fits (omega (arith, fits)) ∙ u .same-size
 
-    doubled-behind : drop 256 (paste cells size cells size) ≡ drop 256 before
-    doubled-behind = paste-behind cells size 256 fits (omega (arith, ends-small)) ∙ u .behind
+    doubled-rest : drop 256 (paste cells size cells size) ≡ drop 256 before
+    doubled-rest = paste-rest cells size 256 fits (omega (arith, ends-small)) ∙ u .rest
 
     -- one bit more
     pub ends-more : (v : ℕ) → v ≡ bitsAt (w .bytes) 0 8 / 2 ^ (8 - k) → k < 8
@@ -183,7 +183,7 @@ module _ (w : Pattern) (long : 8 ≤ w .count) (before : List ℕ) (room : 256 �
           power = power;
           moves = λ B l. rw (again, add-one k) (set-in B (omega arith));
           same-size = length-set (paste cells size cells size) v (w .count - k) ∙ doubled-size;
-          behind = drop-set-lt 256 (paste cells size cells size) v (w .count - k) (omega (arith, below, small)) ∙ doubled-behind;
+          rest = drop-set-lt 256 (paste cells size cells size) v (w .count - k) (omega (arith, below, small)) ∙ doubled-rest;
         }
       where
         there : v ≡ bitsAt (w .bytes) 0 k
@@ -226,7 +226,7 @@ ends-made w long before room cells size k u last =
     record {
       moves = λ B l. doubled w long _ room-set cells size k u B (rw all l) ∙ ap₂ (least (meets w B)) from number;
       size = doubled-size w long _ room-set cells size k u ∙ size-set;
-      behind = doubled-behind w long _ room-set cells size k u ∙ drop-set-lt 256 before 0 (w .count) (omega arith);
+      rest = doubled-rest w long _ room-set cells size k u ∙ drop-set-lt 256 before 0 (w .count) (omega arith);
     }
 
 -- one move less: it goes to the value that the pattern shows d before its last eight bits
@@ -236,7 +236,7 @@ entered-more w before cells d v u room h top e =
     record {
       moves = λ B l. rw (this, more) (set-in B l);
       size = length-set cells v d ∙ u .size;
-      behind = drop-set-lt 256 cells v d below ∙ u .behind;
+      rest = drop-set-lt 256 cells v d below ∙ u .rest;
     }
   where
     this : suc (d - 1) ≡ d
@@ -255,12 +255,12 @@ entered-more w before cells d v u room h top e =
 
 -- the same, whatever was before
 pub entered-here : {w : Pattern} {before cells : List ℕ} {d : ℕ} → Entered w before cells d → Entered w cells cells d
-entered-here u = record { moves = u .moves; size = refl; behind = refl }
+entered-here u = record { moves = u .moves; size = refl; rest = refl }
 
 -- one part and then another
 pub entered-then : {w : Pattern} {before middle cells : List ℕ} {d e : ℕ} → Entered w before middle d → Entered w middle cells e
     → Entered w before cells e
-entered-then u v = record { moves = v .moves; size = v .size ∙ u .size; behind = v .behind ∙ u .behind }
+entered-then u v = record { moves = v .moves; size = v .size ∙ u .size; rest = v .rest ∙ u .rest }
 
 -- all are entered: the least move from 1 on is what the table holds
 pub entered-all : (w : Pattern) (before cells : List ℕ) (d : ℕ) → Entered w before cells d → d ≡ 0 → Prepared Hash w before cells
@@ -271,5 +271,5 @@ entered-all w before cells d u none =
     record {
       tables = record { move-is = λ B l. rw (one, all) at (u .moves B l) };
       size = u .size;
-      behind = u .behind;
+      rest = u .rest;
     }

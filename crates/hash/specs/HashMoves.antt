@@ -15,4 +15,4 @@ Moves w size d k cells = (B : ℕ) → B < size → getD cells B 0 ≡ least (me
 pub record Entered (w : Pattern) (before cells : List ℕ) (d : ℕ) : Type 0 where
   pub moves : Moves w 256 (suc d) (w .count - d) cells
   pub size : length cells ≡ length before
-  pub behind : drop 256 cells ≡ drop 256 before
+  pub rest : drop 256 cells ≡ drop 256 before

@@ -133,7 +133,7 @@ module _ (s w t : List ℕ) (g : Good s w t) (x : Method) where
               );
         }
 
-    -- the key is never short
+    -- every occurrence is printed
     pub listed : Listed w t x (machine (asked (textIn t) (patternIn w) x))
     listed = lists (machine (asked (textIn t) (patternIn w) x)) accepted-line what-is-left
 

@@ -166,8 +166,7 @@ fn spoil(list: &mut [u32], k: usize, x: usize) {
 // The bytes that a file is damaged with.
 const DAMAGE: [usize; 10] = [0, 1, 128, 1, 255, 1, 127, 1, 0, 256];
 
-// What is added to a file's bytes, and 3: nothing for the classes that change a byte, then some cut off, some left over, and
-// nothing.
+// What is added to a file's bytes, each with 3 added: mostly nothing, else some are cut off or left over.
 const SIZES: [usize; 12] = [3, 1, 3, 1, 3, 1, 0, 4, 3, 3, 3, 1];
 
 // Damages the file of so many bytes, or leaves it; the answer is its bytes then.
@@ -179,7 +178,7 @@ fn damaged(s: &mut [u8], size: usize, x: usize) -> usize {
         NOWHERE
     };
     put8(s, at, byte(choose(&DAMAGE, draw(x, 10, 6), x, 11)));
-    minus(plus(size, choose(&SIZES, class, x, 12)), 3)
+    minus(plus(size, choose(&SIZES, draw(x, 18, 6), x, 12)), 3)
 }
 
 // Cells for what is read, too few or enough: up to 12 once in four draws, or 16 to 24.

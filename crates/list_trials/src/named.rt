@@ -36,7 +36,7 @@ fn of_list(i: usize) -> Row {
     LISTS[i % 11]
 }
 
-// `first` and what is so far apart, in every cell.
+// Fills the cells with first, first + apart, first + 2 apart and so on.
 fn rise(list: &mut [u32], first: usize, apart: usize) {
     let mut p = first;
     let mut i: usize = 0;

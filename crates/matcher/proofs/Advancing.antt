@@ -1,21 +1,20 @@
 -- Laws of steps made one after the other with their list: none, one, some that find nothing, and some more after them.
 -- Assumes nothing.
 use mathlib.Core.Path.{_≡_, refl, sym, ap, _∙_}
-use mathlib.Core.Bool.{Bool, true, false, cond, true≢false}
-use mathlib.Core.List.{List, [], _∷_, _++_, append-nil}
-use Prim.Native.Nat.{ℕ, zero, suc, _+_, _-_, _≤_, _<_}
-use native.Mathlib.Nat.{add-zero, zero-add, sub-zero}
+use mathlib.Core.Bool.{Bool, true, false, true≢false}
+use mathlib.Core.List.{List, [], _++_}
+use Prim.Native.Nat.{ℕ, _+_, _-_, _≤_, _<_}
+use native.Mathlib.Nat.{sub-zero}
 use native.Mathlib.Omega.{arith}
 use borrow.Author.Tests.{ltb-true, ltb-false}
-use lib.Dec.{ltb}
-use lib.ListN.{length, getD, take, set, length-append}
+use lib.ListN.{length, getD, take}
 use lib.Seq.{length-take-le, take-all}
 use Rattle.bits.specs.Packed.{Packed}
 use Rattle.rules.specs.declared.Method.{Method}
 use Rattle.rules.specs.Pattern.{Pattern}
 use Rattle.rules.specs.Occurrence.{places}
 use Rattle.rules.specs.Step.{finds, next}
-use Rattle.rules.specs.Machine.{full, Run, run, after, cut}
+use Rattle.rules.specs.Machine.{full, run, after, cut}
 use Rattle.matcher.specs.Progress.{Reaches, Writing, Stepped, Advanced}
 use Rattle.rules.proofs.Step.{next-le}
 use Rattle.matcher.proofs.Progress.{reaches-none, reaches-step, reaches-join, run-to-cut, whole}
@@ -117,7 +116,3 @@ module _ (x : Method) (t : Packed) (w : Pattern) where
         let same : length list ≡ length before = writing-length before had (a .found) list hits (a .writing) in
         advanced-join s budget before had at steps hits list at' more hits false list h a
         (advanced-quiet at (budget - steps) list hits at' more (omega (arith, a .writing .fits)) r (omega arith) l)
-
-    -- a step more that finds nothing
-    pub advanced-miss : at < places t w → steps < budget → finds x t w at ≡ [] → Advanced x t w s budget before had (next x t w at) (steps + 1) hits false list
-    advanced-miss l b e = advanced-more (next x t w at) 1 (rw e at (reaches-step x t w at l)) (omega arith) (next-le x t w at)

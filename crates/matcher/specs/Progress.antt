@@ -2,16 +2,16 @@
 use Prim.Native.Nat.{ℕ, _+_, _-_, _^_, _≤_, _<_, min}
 use mathlib.Core.Path.{_≡_}
 use mathlib.Core.Bool.{Bool, true, false, cond}
-use mathlib.Core.List.{List, [], _++_}
-use lib.Dec.{ltb, eqb}
-use lib.ListN.{length, getD, take, drop}
+use mathlib.Core.List.{List}
+use lib.Dec.{ltb}
+use lib.ListN.{length, getD, take}
 use lib.Seq.{sets}
 use Rattle.bits.specs.Packed.{Packed, bytesFor, bitsAt}
 use Rattle.rules.specs.declared.Method.{Method}
 use Rattle.rules.specs.Pattern.{Pattern}
 use Rattle.rules.specs.Occurrence.{places}
 use Rattle.rules.specs.Step.{unfit, finds, next}
-use Rattle.rules.specs.Machine.{Ending, done, spent, full, run, after}
+use Rattle.rules.specs.Machine.{full, run, after}
 use Rattle.matcher.specs.Tables.{Tables, cellsFor}
 
 -- bytes and a bit count as the text

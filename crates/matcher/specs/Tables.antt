@@ -67,4 +67,4 @@ cellsFor Wide m = 2 * (63 + m)
 pub record Prepared (x : Method) (w : Pattern) (before cells : List ℕ) : Type 0 where
   pub tables : Tables x w cells
   pub size : length cells ≡ length before
-  pub behind : drop (cellsFor x (w .count)) cells ≡ drop (cellsFor x (w .count)) before
+  pub rest : drop (cellsFor x (w .count)) cells ≡ drop (cellsFor x (w .count)) before

@@ -3,7 +3,7 @@
 use Prim.Native.Nat.{ℕ, _+_, _-_, _*_, _/_, _%_, _≤_, _<_, min}
 use mathlib.Core.Path.{_≡_, refl, sym, ap, ap₂, _∙_}
 use mathlib.Core.Logic.{_≢_, _⊎_, inl, inr}
-use mathlib.Core.Bool.{Bool, true, false, _&&_, cond}
+use mathlib.Core.Bool.{Bool, true, false, cond}
 use mathlib.Core.List.{List}
 use native.Mathlib.Omega.{arith}
 use lib.Bits.{bitAnd}
@@ -31,7 +31,7 @@ filled-none k prev x prevMask mask before =
       mask-is = λ y j l h. absurd (omega arith);
       size = refl;
       front = λ y h. refl;
-      behind = λ y h. refl;
+      rest = λ y h. refl;
     }
 
 -- one row more
@@ -54,7 +54,7 @@ module _ (k prev x prevMask mask : ℕ) (before cells : List ℕ) (i r q : ℕ) 
         mask-is = λ y j l h. masks y j h (eq-or-below {a = y} {b = i} (omega arith));
         size = length-set (set cells (16 * k + i) r) (16 * k + 8 + i) q ∙ length-set cells (16 * k + i) r ∙ f .size;
         front = λ y h. other y (omega arith) (omega arith) ∙ f .front y h;
-        behind = λ y h. other y (omega arith) (omega arith) ∙ f .behind y h;
+        rest = λ y h. other y (omega arith) (omega arith) ∙ f .rest y h;
       }
     where
       new-row : getD after (16 * k + i) 0 ≡ r
@@ -132,7 +132,7 @@ pub record Made (w : Pattern) (k prev prevMask : ℕ) (before cells : List ℕ) 
   pub prev-is : Holds (rowBit w) 64 k prev
   pub prev-mask-is : Holds (maskBit w) 64 k prevMask
   pub size : length cells ≡ length before
-  pub behind : (y : ℕ) → 16 * k ≤ y → getD cells y 0 ≡ getD before y 0
+  pub rest : (y : ℕ) → 16 * k ≤ y → getD cells y 0 ≡ getD before y 0
 
 module _ (w : Pattern) where
   rows-move : Moves (rowBit w)
@@ -154,7 +154,7 @@ module _ (w : Pattern) where
         prev-is = λ j h. no-ones (63 - j) ∙ sym (row-bit-is w 64 (8 * 0 + j / 8) (j % 8) false (out j h));
         prev-mask-is = λ j h. no-ones (63 - j) ∙ sym (mask-bit-is w 64 (8 * 0 + j / 8) (j % 8) false (out j h));
         size = refl;
-        behind = λ y h. refl;
+        rest = λ y h. refl;
       }
 
   -- the unshifted bits
@@ -195,7 +195,7 @@ module _ (w : Pattern) where
           prev-is = holds-next (rowBit w) rows-move k prev x (m .prev-is) xs;
           prev-mask-is = holds-next (maskBit w) masks-move k prevMask mask (m .prev-mask-is) ms;
           size = f .size ∙ m .size;
-          behind = λ y h. f .behind y (omega arith) ∙ m .behind y (omega arith);
+          rest = λ y h. f .rest y (omega arith) ∙ m .rest y (omega arith);
         }
       where
         row : (i c j : ℕ) → i < 8 → j < 64 → (c ≡ k) ⊎ (c < k) → bitOf 64 (getD after (16 * c + i) 0) j ≡ rowBit w i (8 * c + j / 8) (j % 8)
@@ -216,11 +216,11 @@ module _ (w : Pattern) where
           mask-is = λ i c j l h u. m .mask-is i c j l (omega arith) u;
         };
         size = m .size;
-        behind =
+        rest =
             ext-getD 0 (drop (cellsFor Plain (w .count)) cells) (drop (cellsFor Plain (w .count)) before)
             (simp length-drop (ap (λ (n : ℕ). n - cellsFor Plain (w .count)) (m .size)))
             (λ y h.
             getD-drop (cellsFor Plain (w .count)) cells y 0
-            ∙ m .behind (cellsFor Plain (w .count) + y) (omega arith)
+            ∙ m .rest (cellsFor Plain (w .count) + y) (omega arith)
             ∙ sym (getD-drop (cellsFor Plain (w .count)) before y 0));
       }

@@ -23,4 +23,4 @@ pub record Filled (k rows prev x prevMask mask : ℕ) (before cells : List ℕ) 
   pub mask-is : (i j : ℕ) → i < rows → j < 64 → bitOf 64 (getD cells (16 * k + 8 + i) 0) j ≡ shiftedBit prevMask mask i j
   pub size : length cells ≡ length before
   pub front : (y : ℕ) → y < 16 * k → getD cells y 0 ≡ getD before y 0
-  pub behind : (y : ℕ) → 16 * k + 16 ≤ y → getD cells y 0 ≡ getD before y 0
+  pub rest : (y : ℕ) → 16 * k + 16 ≤ y → getD cells y 0 ≡ getD before y 0

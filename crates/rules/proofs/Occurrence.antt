@@ -42,11 +42,6 @@ module _ (t : Packed) (w : Pattern) where
   unfolding matches
   to-matches s h = to-every (w .count) _ h
 
-  pub matches-bits : (s : ℕ)
-      → (matches t w s ≡ true) ↔ ((j : ℕ) → j < w .count → bitAt (t .bytes) (s + j) ≡ bitAt (w .bytes) j)
-  matches-bits s =
-      (λ h j l. agrees-iff w j _ .0 (matches-at s h j l), λ h. to-matches s (λ j l. agrees-iff w j _ .1 (h j l)))
-
   -- the test and the proposition are the same
   pub occurs-iff : (s : ℕ) → (occurs t w s ≡ true) ↔ Occurs t w s
   unfolding occurs

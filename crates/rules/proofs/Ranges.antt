@@ -3,7 +3,7 @@ use Prim.Native.Nat.{ℕ, zero, suc, _+_, _-_, _≤_, _<_}
 use mathlib.Core.Path.{_≡_, refl, sym, ap, _∙_}
 use mathlib.Core.Logic.{_⊎_, inl, inr}
 use mathlib.Core.Bool.{Bool, true, false, _&&_, cond, false≢true}
-use mathlib.Core.List.{List, [], _∷_, _++_, List·Memᴰ, List·Memᴰ·head, List·Memᴰ·tail, List·Memᴰ·not-nil, List·Memᴰ·cases-cons}
+use mathlib.Core.List.{List, [], _++_, List·Memᴰ, List·Memᴰ·head, List·Memᴰ·tail, List·Memᴰ·not-nil, List·Memᴰ·cases-cons}
 use mathlib.Core.Option.{Option, none, some}
 use native.Mathlib.Nat.{add-zero, zero-add, suc-add, not-suc-le-zero, le-of-suc-le-suc, sub-self}
 use native.Mathlib.Decide.{ℕ-discrete}
@@ -94,20 +94,6 @@ unfolding among
 among-none f i zero h = refl
 among-none f i (suc k) h =
     rw (h i (omega arith) (omega arith)) (among-none f (suc i) k (λ p l u. h p (omega arith) (omega arith)))
-
-among-hit : (f : ℕ → Bool) (p n : ℕ) → f p ≡ true → among f p (suc n) ≡ p ∷ among f (suc p) n
-unfolding among
-among-hit f p n h = rw h
-
--- the first number that passes, and the range after it
-pub among-next : (f : ℕ → Bool) (i k p : ℕ) → i ≤ p → p < i + k → ((q : ℕ) → i ≤ q → q < p → f q ≡ false) → f p ≡ true
-    → among f i k ≡ p ∷ among f (suc p) (i + k - suc p)
-among-next f i k p l u none-before h =
-    let parts : k ≡ (p - i) + suc (i + k - suc p) = omega arith in
-    let mid : i + (p - i) ≡ p = omega arith in
-    ap (among f i) parts
-    ∙ among-append f i (p - i) (suc (i + k - suc p))
-    ∙ rw (among-none f i (p - i) (λ q a b. none-before q a (omega arith)), mid) (among-hit f p (i + k - suc p) h)
 
 -- at most all of them are kept
 pub among-length : (f : ℕ → Bool) (i k : ℕ) → length (among f i k) ≤ k

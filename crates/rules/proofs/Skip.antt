@@ -1,19 +1,16 @@
 -- The skip method is right: every place from s to 8b contains byte b, so an occurrence there shows that byte.
 use Prim.Native.Nat.{ℕ, _+_, _-_, _*_, _≤_, _<_}
 use mathlib.Core.Path.{_≡_}
-use mathlib.Core.Logic.{_↔_}
 use mathlib.Core.Bool.{true}
 use native.Mathlib.Omega.{arith}
 use lib.Dec.{ltb}
-use Rattle.bits.specs.Packed.{Packed, bitsAt}
-use Rattle.bits.proofs.Run.{agree→load, load→agree}
+use Rattle.bits.specs.Packed.{Packed}
 use Rattle.rules.specs.declared.Method.the-variants.{Skip}
 use Rattle.rules.specs.Pattern.{Pattern}
 use Rattle.rules.specs.Occurrence.{places, matches, occurs, occurrences}
 use Rattle.rules.specs.Skip.{lastByte, shows, shownAt, skipFinds}
 use Rattle.rules.specs.Step.{finds, ahead, Sound}
-use Rattle.rules.proofs.Ranges.{and-left, and-right, and-both, same-test, every-at, to-every, among-same}
-use Rattle.rules.proofs.Pattern.{agrees-iff}
+use Rattle.rules.proofs.Ranges.{and-left, and-right, and-both, same-test, to-every, among-same}
 use Rattle.rules.proofs.Occurrence.{matches-at}
 use Rattle.rules.proofs.Step.{cut-at-places}
 
@@ -25,15 +22,6 @@ module _ (w : Pattern) (s : ℕ) (long : 15 ≤ w .count) where
   -- "All places s..8b contain byte b."
   pub contains-byte : (a : ℕ) → s ≤ a → a ≤ 8 * lastByte w s → 8 * lastByte w s + 8 ≤ a + w .count
   contains-byte a l u = omega arith
-
--- byte b is shown just if the pattern's eight bits from index 8b − a on are its
-pub shows-byte : (t : Packed) (w : Pattern) (b a : ℕ)
-    → (shows t w b a ≡ true) ↔ (bitsAt (t .bytes) (8 * b) 8 ≡ bitsAt (w .bytes) (8 * b - a) 8)
-unfolding shows
-shows-byte t w b a = (
-  λ h. agree→load (t .bytes) (w .bytes) (8 * b) (8 * b - a) 8 (λ j l. agrees-iff w (8 * b - a + j) _ .0 (every-at 8 _ h j l)),
-  λ e. to-every 8 _ (λ j l. agrees-iff w (8 * b - a + j) _ .1 (load→agree (t .bytes) (w .bytes) (8 * b) (8 * b - a) 8 e j l)),
-)
 
 module _ (t : Packed) (w : Pattern) (s : ℕ) (long : 15 ≤ w .count) where
   occurrence-shows : (a : ℕ) → s ≤ a → a ≤ 8 * lastByte w s → matches t w a ≡ true → shows t w (lastByte w s) a ≡ true

@@ -87,7 +87,7 @@ module _ (x : Method) (t : Packed) (w : Pattern) (s budget : ℕ) (before cells 
         scratch-rest =
             ap (λ (n : ℕ). drop n scratch) whole
             ∙ sym (drop-drop (scratchCells - k0) k0 scratch)
-            ∙ ap (drop (scratchCells - k0)) (p .behind)
+            ∙ ap (drop (scratchCells - k0)) (p .rest)
             ∙ drop-drop (scratchCells - k0) k0 cells
             ∙ ap (λ (n : ℕ). drop n cells) (sym whole);
       }

@@ -1,22 +1,19 @@
 -- What the loop of a call leaves, what a call may rely on when it has passed the check, and what its parts promise.
-use Prim.Native.Nat.{ℕ, _+_, _-_, _^_, _≤_, _<_, min}
+use Prim.Native.Nat.{ℕ, _^_, _≤_}
 use mathlib.Core.Path.{_≡_}
 use mathlib.Core.Bool.{Bool, true, false, cond}
 use mathlib.Core.List.{List, [], _++_}
-use lib.Dec.{ltb, eqb}
-use lib.ListN.{length, getD, take, drop}
-use lib.Seq.{sets}
-use Rattle.bits.specs.Packed.{Packed, bytesFor, bitsAt}
+use lib.Dec.{eqb}
+use lib.ListN.{length, drop}
+use Rattle.bits.specs.Packed.{Packed, bytesFor}
 use Rattle.rules.specs.declared.Method.{Method}
 use Rattle.search.specs.declared.Answer.{Answer}
 use Rattle.search.specs.declared.check.Checked.{Checked}
 use Rattle.search.specs.declared.check.Checked.the-variants.{Passed, Refused}
 use Rattle.rules.specs.Pattern.{Pattern}
 use Rattle.rules.specs.Occurrence.{places}
-use Rattle.rules.specs.Step.{unfit, finds, next}
-use Rattle.rules.specs.Machine.{Ending, done, spent, full, run, after}
+use Rattle.rules.specs.Machine.{Ending, done, spent, full, run}
 use Rattle.search.specs.Verdict.{Verdict, refused, accepted, rows, judge, numberOfRefusal, endingOf, scratchCells, Carries}
-use Rattle.matcher.specs.Tables.{Tables, cellsFor}
 use Rattle.matcher.specs.Progress.{GoodPattern}
 
 -- how a run stopped, by whether a place found no cell, the mark left and the number of places

@@ -30,8 +30,8 @@ module _ (n : ℕ) (before cells : List ℕ) (e : cells ≡ replicate n 0 ++ dro
   pub same-size : n ≤ length before → length cells ≡ length before
   same-size h = rw e (simp (length-append, length-replicate, length-drop) (omega arith))
 
-  pub same-behind : (m : ℕ) → drop (n + m) cells ≡ drop (n + m) before
-  same-behind m =
+  pub same-rest : (m : ℕ) → drop (n + m) cells ≡ drop (n + m) before
+  same-rest m =
       let here : n + m ≡ length {A = ℕ} (replicate n 0) + m = rw length-replicate in
       ap (drop (n + m)) e
       ∙ ap (λ (i : ℕ). drop i (replicate n 0 ++ drop n before)) here
@@ -45,14 +45,14 @@ filled-none w before cells e =
       heads = λ B l. zeros 256 before cells e B l ∙ sym (shown-zero w B);
       links = λ j l. absurd (omega arith);
       size = refl;
-      behind = refl;
+      rest = refl;
     }
 
 -- one index more, at the head of its chain
 pub filled-more : (w : Pattern) (before cells : List ℕ) (k v : ℕ) → Filled w before k cells → v ≡ bitsAt (w .bytes) k 8 → k < w .count
     → 256 + w .count ≤ length before → Filled w before (k + 1) (set (set cells (256 + k) (getD cells v 0)) v (k + 1))
 filled-more w before cells k v f ev h room =
-    record { heads = heads; links = links; size = simp length-set (f .size); behind = behind }
+    record { heads = heads; links = links; size = simp length-set (f .size); rest = rest }
   where
     next : List ℕ
     next = set (set cells (256 + k) (getD cells v 0)) v (k + 1)
@@ -97,21 +97,21 @@ filled-more w before cells k v f ev h room =
             ∙ ap (λ (u : ℕ). lastShown w u k) ev)
         go (inr less) = off-link (256 + j) (λ e. omega arith) ∙ f .links j less
 
-    behind : drop (256 + w .count) next ≡ drop (256 + w .count) before
-    behind =
+    rest : drop (256 + w .count) next ≡ drop (256 + w .count) before
+    rest =
         drop-set-lt (256 + w .count) (set cells (256 + k) (getD cells v 0)) v (k + 1) (omega (arith, small))
         ∙ drop-set-lt (256 + w .count) cells (256 + k) (getD cells v 0) (omega arith)
-        ∙ f .behind
+        ∙ f .rest
 
 -- the same, told of the cells as they now are
 pub filled-here : {w : Pattern} {before : List ℕ} {k : ℕ} {cells : List ℕ} → Filled w before k cells → Filled w cells k cells
-filled-here f = record { heads = f .heads; links = f .links; size = refl; behind = refl }
+filled-here f = record { heads = f .heads; links = f .links; size = refl; rest = refl }
 
 -- more indices entered after some
 pub filled-then : {w : Pattern} {before : List ℕ} {k : ℕ} {cells : List ℕ} {k' : ℕ} {cells' : List ℕ} → Filled w before k cells → Filled w cells k' cells'
     → Filled w before k' cells'
 filled-then f g =
-    record { heads = g .heads; links = g .links; size = g .size ∙ f .size; behind = g .behind ∙ f .behind }
+    record { heads = g .heads; links = g .links; size = g .size ∙ f .size; rest = g .rest ∙ f .rest }
 
 -- all indices are entered, from empty chains on
 pub filled-all : (w : Pattern) (before cleared cells : List ℕ) (k : ℕ) → cleared ≡ replicate 256 0 ++ drop 256 before → 256 ≤ length before
@@ -120,5 +120,5 @@ filled-all w before cleared cells k c h f e =
     record {
       tables = record { head-is = λ B l. f .heads B l ∙ ap (lastShown w B) e; link-is = λ j l. f .links j (omega arith) };
       size = f .size ∙ same-size 256 before cleared c h;
-      behind = f .behind ∙ same-behind 256 before cleared c (w .count);
+      rest = f .rest ∙ same-rest 256 before cleared c (w .count);
     }

@@ -12,4 +12,4 @@ pub record Filled (w : Pattern) (before : List ℕ) (k : ℕ) (cells : List ℕ)
   pub heads : (B : ℕ) → B < 256 → getD cells B 0 ≡ lastShown w B k
   pub links : (j : ℕ) → j < k → getD cells (256 + j) 0 ≡ lastShown w (bitsAt (w .bytes) j 8) j
   pub size : length cells ≡ length before
-  pub behind : drop (256 + w .count) cells ≡ drop (256 + w .count) before
+  pub rest : drop (256 + w .count) cells ≡ drop (256 + w .count) before

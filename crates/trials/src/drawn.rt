@@ -59,7 +59,7 @@ pub(crate) fn pattern_length(x: usize, way: usize) -> usize {
     plus(m, more)
 }
 
-// Lengths of the text of every class, out of 32, and 1. The first two have whole bytes or a bit more; the next two are any
+// Lengths of the text of every class, each with 1 added; the class is drawn out of 32. The first two have whole bytes or a bit more; the next two are any
 // length and 0; the others are about the pattern's length or longer.
 const TEXTS: [usize; 20] = [
     1,
@@ -84,7 +84,7 @@ const TEXTS: [usize; 20] = [
     200,
 ];
 
-// A list of calls, whose number is 4, has no text of the last class, so that it goes far.
+// A list of calls, kind 4, has no text of the last class, so that it goes far.
 fn text_length(x: usize, m: usize, way: usize) -> usize {
     let class = least_of(draw(x, 3, 32), 9 - way / 4 % 2);
     let more = choose(&TEXTS, class, x, 4);

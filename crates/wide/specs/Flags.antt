@@ -51,7 +51,7 @@ unfoldable pub second : ℕ → ℕ → ℕ → Bool
 second m from q = eqb (q % 16 / 8 * 8) from && (ltb q 80 && leb (q / 8 * 8 + 8) (63 + m))
 
 -- those that a scan applies in its first k rounds ("Scan order is the builder's choice"): for a pattern below 64 bits round 0
--- is every second byte of the window, and round 1 the others; for a longer one each round is sixteen bits, from bit 56 on
+-- is every second byte of the window before bit 80, and round 1 the others of these; for a longer one each round is sixteen bits, from bit 56 on
 unfoldable pub applied : ℕ → ℕ → ℕ → Bool
 applied m k q = cond (ltb m 64) ((ltb 0 k && second m 0 q) || (ltb 1 k && second m 8 q)) (within 56 (56 + 16 * k) q)
 

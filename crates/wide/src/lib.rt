@@ -128,7 +128,7 @@ fn keep8(text: &[u8], cells: &[u64], s: Place, q: u32, flags: u64) -> u64
     f
 }
 
-// Every second byte of the window from bit `from` on is applied to the flags, as far as flag 63 needs.
+// Every second byte of the window from bit `from` on is applied to the flags, before bit 80.
 fn pass(text: &[u8], m: u32, cells: &[u64], s: Place, from: u32, flags: u64) -> u64
     requires { ⌜ (m ≤ 2048) × (2 * (63 + m) ≤ length (now cells)) × StartsByte from × (from ≤ 8) ⌝ }
     requires { ⌜ (s .0 + 63 + m ≤ 2 ^ 30) × (bytesFor (s .0 + 63 + m) ≤ length (now text)) ⌝ }

@@ -1,4 +1,4 @@
--- `hits::main` meets its contract: the buffer holds all that is printed. The lengths of the arrays come from a law, since
+-- `hits::main` is safe and ends: the buffer holds all that is printed. The lengths of the arrays come from a law, since
 -- computing them counts each cell.
 -- Assumes nothing.
 use mathlib.Core.Path.{refl}

@@ -83,7 +83,7 @@ returns c =
     record {
       tables = record { flags-are = λ q b i u v h. f .flags q b i (omega arith) v h };
       size = f .size;
-      behind = f .after;
+      rest = f .after;
     }
 
 pub prepare-spec : {M : Type 1} → statement M

@@ -1,5 +1,5 @@
 -- `wide::scan` meets its contract: all flags of the last step; one pass, and another where it leaves several; or, for a
--- longer pattern, two bytes after the other. The loop's invariant: the window bits from 56 on and before q are applied, in
+-- longer pattern, two bytes at a time. The loop's invariant: the window bits from 56 on and before q are applied, in
 -- whole rounds.
 -- Assumes nothing.
 use mathlib.Core.Path.{_≡_}

@@ -1,7 +1,6 @@
 -- `bits::load::word_inside` meets its contract: the law of an unaligned load, at eight bytes with a byte after them.
 -- Assumes nothing.
 use Prim.Native.Nat.{_+_, _/_}
-use native.Mathlib.Omega.{arith}
 use denote.Ref.{now}
 use lib.Dec.{lit<}
 use Rattle.bits.proofs.Loads.{load-at}

@@ -1,8 +1,8 @@
 -- `search::call::accepted` meets its contract: with no place there is nothing to do; else the tables are made and the steps follow.
 -- Assumes nothing.
-use mathlib.Core.Path.{_≡_, refl, sym, _∙_, ap}
+use mathlib.Core.Path.{_≡_, refl}
 use mathlib.Core.Bool.{true}
-use Prim.Native.Nat.{ℕ, _+_, _-_, _≤_, _<_}
+use Prim.Native.Nat.{_+_, _-_}
 use native.Mathlib.Omega.{arith}
 use denote.Ref.{now}
 use lib.Dec.{eqb}
@@ -10,7 +10,6 @@ use borrow.Author.Tests.{eq-eqb}
 use Rattle.rules.specs.Occurrence.{places}
 use Rattle.rules.specs.Machine.{stopped}
 use Rattle.matcher.specs.Progress.{textOf, patternOf}
-use Rattle.search.specs.Parts.{Tells}
 use Rattle.search.proofs.Accepting.{tables-fit, few-hits, leaves-none, leaves-run}
 use borrow.Author.Needs.{needs}
 use Rattle.search.proofs.call.accepted.Statement.{statement}

@@ -1,6 +1,6 @@
 -- `search::call::answer` meets its contract: the ways out are the three ways to stop.
 -- Assumes nothing.
-use mathlib.Core.Path.{refl, sym, _∙_, ap}
+use mathlib.Core.Path.{refl}
 use borrow.Author.Tests.{eq-eqb, ne-eqb}
 use borrow.Author.Needs.{needs}
 use Rattle.search.proofs.call.answer.Statement.{statement}
