@@ -103,7 +103,7 @@ static uint32_t (*const mitongory_version_needed)(void) __attribute__((used)) = 
 #define MITONGORY_SCRATCH_CELLS 4224
 #define MITONGORY_ANSWER_CELLS 4
 
-/* What a call returns. 1 to 14 are the numbers of the papers; 100 and 101 are of this interface. */
+/* What a call returns. 1 to 14 are the numbers of the requirements; 100 and 101 exist only in this interface. */
 enum mitongory_result {
     MITONGORY_OK = 0,
     MITONGORY_TEXT_TOO_LONG = 1,         /* n above 2^30 */
