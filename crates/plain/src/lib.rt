@@ -122,7 +122,8 @@ fn candidate(text: &[u8], cells: &[u64], s: Place, limit: Place) -> Place
     in_blocks(text, cells, ByteNo(b.0 + 1), limit)
 }
 
-// Whether the cells of the row from cell `from` on agree at place s.
+// Whether the cells of the row from cell `from` on agree at place s: cell k, whose first bit is the row's bit 64 k, with as
+// many bytes of the text.
 fn row_fits(text: &[u8], m: u32, cells: &[u64], s: Place, from: usize) -> bool
     requires { ⌜ (m ≤ 2048) × (s .0 ≤ 2 ^ 30) × (16 * rowChunks m ≤ length (now cells)) ⌝ }
     ensures { λ r. ⌜ (r ≡ true) ↔ ((k : ℕ) → from ≤ k → k < rowChunks m → cellFits (now (text .entry)) (now (cells .entry)) (s .0) k ≡ true) ⌝ }

@@ -167,7 +167,8 @@ returns c =
     let last : lastByte w p ≡ b = mark-byte b (a .m) (s .pre .1 .1 .0) long in
     let low = from-mark (c .before .before .before .before .before) .1 in
     let found = stands (c .before .before) _ (c .before .if2 .taken) in
-    rw (first-bit (c .before .before .before .before .before .before .before .before .before))
+    let place = ap (λ (x : ℕ). x + 1 - l .next) (first-bit (c .before .before .before .before .before .before .before .before .before)) in
+    rw (sym place) at
     (skip-full t w p (now (a .list)) (a .had) (l .list) (l .written) (8 * b + 1 - l .next) (l .inv .1) long (s .pre .1 .1 .2)
     (rest-le _ _ _ low) (rw last (below-top (8 * b + 1) (l .next) (some (c .before .before .before .before .loop-test .taken)) (part-le _ _ _ low))) found (c .if3 .taken))
 
