@@ -194,9 +194,9 @@ def console(block, where):
         check((done.returncode, done.stdout.decode().splitlines()), (0, expected), where)
 
 
-def blocks(page):
+def blocks(text):
     """Each fenced block: the line that it starts on, its kind and its lines."""
-    lines = page.split("\n")
+    lines = text.split("\n")
     start = None
     for i, line in enumerate(lines):
         if not line.startswith("```"):
@@ -210,15 +210,46 @@ def blocks(page):
         sys.exit("tests/guide.py: the block of line %d has no end" % (start + 1))
 
 
+# ---- names and numbers, which are the same everywhere
+
+
+def page(path):
+    with open(os.path.join(ROOT, path), encoding="utf-8") as f:
+        return f.read()
+
+
+def named(text, pattern):
+    """The numbers with their names that a pattern finds in a text, a name of C written as in Rattle and Rust."""
+    found = re.findall(pattern, text, re.M)
+    return {int(number): name.title().replace("_", "") if name.isupper() else name for name, number in found}
+
+
+def refusals():
+    """Each refusal has one name and one number: in the guide, the header, the Rust crate and the definitions."""
+    guide = {int(number): name for number, name in re.findall(r"^\| (\d+) \| (\w+) \|", page("docs/GUIDE.md"), re.M)}
+    results = re.search(r"enum mitongory_result \{(.*?)\};", page("include/mitongory.h"), re.S).group(1)
+    header = named(results, r"MITONGORY_(\w+) = ([1-9]\d*)")
+    check(header, guide, "refusals of the header against the guide")
+    rules = {number: name for number, name in guide.items() if number < 100}
+    crate = named(page("rust/src/refusal.rs"), r"^    (\w+) = (\d+),")
+    check(crate, rules, "refusals of the Rust crate against the guide")
+    defined = {}
+    for path, name in [
+        ("crates/search/specs/Verdict.antt", "numberOfRefusal"),
+        ("crates/bits/specs/Eight.antt", "numberOf"),
+        ("crates/positions/specs/Promise.antt", "(?:write|read)Refusal"),
+    ]:
+        defined.update(named(page(path), r"^%s (\w+) = (\d+)$" % name))
+    check(defined, rules, "refusals of the definitions against the guide")
+
+
 SIMPLE = {"packed": packed, "calls": calls, "rows": rows, "hash": hash_values, "file": files, "console": console}
 
 
-def run(page, folder):
-    with open(os.path.join(ROOT, page), encoding="utf-8") as f:
-        text = f.read()
+def run(path, folder):
     pending = None
-    for number, kind, block in blocks(text):
-        where = "%s, line %d" % (page, number)
+    for number, kind, block in blocks(page(path)):
+        where = "%s, line %d" % (path, number)
         if pending and kind != ["output"]:
             sys.exit("tests/guide.py: %s: the program before has no output block" % where)
         if len(kind) == 1 and kind[0] in SIMPLE:
@@ -233,15 +264,16 @@ def run(page, folder):
         elif kind not in (["rust"], ["text"]):  # examples of the Rust documentation, which runs them; and no example
             sys.exit("tests/guide.py: %s: no test runs a block of the kind '%s'" % (where, " ".join(kind)))
     if pending:
-        sys.exit("tests/guide.py: %s: the last program has no output block" % page)
+        sys.exit("tests/guide.py: %s: the last program has no output block" % path)
 
 
 def main():
     global library
     with tempfile.TemporaryDirectory() as folder:
         library = Library(folder)
-        for page in sys.argv[1:] or PAGES:
-            run(page, folder)
+        for path in sys.argv[1:] or PAGES:
+            run(path, folder)
+    refusals()
     print("guide.py: %d checks" % checks)
 
 
