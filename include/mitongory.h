@@ -111,7 +111,7 @@ enum mitongory_result {
     MITONGORY_PATTERN_LENGTH = 3,        /* m is 0 or above 2048 */
     MITONGORY_PATTERN_BYTES_MISSING = 4, /* fewer pattern bytes than m bits take */
     MITONGORY_PATTERN_TOO_SHORT = 5,     /* m below 8 for hash and H, below 15 for skip */
-    MITONGORY_BEYOND_END = 6,            /* mark above the number of places; for eight bits, fewer than eight follow */
+    MITONGORY_BEYOND_END = 6,            /* mark above the number of places; place + 8 above n */
     MITONGORY_SCRATCH_TOO_SHORT = 7,     /* fewer than MITONGORY_SCRATCH_CELLS cells */
     MITONGORY_LIST_NOT_RISING = 8,       /* positions not strictly rising, or one is 2^30 or more */
     MITONGORY_TARGET_TOO_SHORT = 9,      /* fewer target bytes than the list's file has */
@@ -134,7 +134,7 @@ static inline const char *mitongory_result_text(uint32_t result)
     case MITONGORY_PATTERN_LENGTH: return "The pattern has no bits, or more than 2048.";
     case MITONGORY_PATTERN_BYTES_MISSING: return "The pattern has fewer bytes than its bits take.";
     case MITONGORY_PATTERN_TOO_SHORT: return "The pattern is too short: hash and H need 8 bits, skip needs 15.";
-    case MITONGORY_BEYOND_END: return "The mark is above the number of places, or fewer than eight bits follow the place.";
+    case MITONGORY_BEYOND_END: return "The mark is above the number of places, or there are fewer than eight bits from the place on.";
     case MITONGORY_SCRATCH_TOO_SHORT: return "The scratch has fewer than 4224 cells.";
     case MITONGORY_LIST_NOT_RISING: return "The positions do not rise strictly, or one is 2^30 or more.";
     case MITONGORY_TARGET_TOO_SHORT: return "The target has fewer bytes than the list's file.";

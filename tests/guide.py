@@ -95,6 +95,8 @@ def counted(count, word):
 def packed(block, where):
     """Bytes in hexadecimal and their bits; how many of them count, and those."""
     rows = dict((line.split()[0], line.split()[1:]) for line in block)
+    check(sorted(rows), ["bits", "byte", "count", "string", "value"], where)
+    check([str(i) for i in range(len(rows["value"]))], rows["byte"], where)
     check(["{:08b}".format(int(b, 16)) for b in rows["value"]], rows["bits"], where)
     check("".join(rows["bits"])[: int(rows["count"][0])], rows["string"][0], where)
 
@@ -233,14 +235,14 @@ def refusals():
     rules = {number: name for number, name in guide.items() if number < 100}
     crate = named(page("rust/src/refusal.rs"), r"^    (\w+) = (\d+),")
     check(crate, rules, "refusals of the Rust crate against the guide")
-    defined = {}
     for path, name in [
         ("crates/search/specs/Verdict.antt", "numberOfRefusal"),
         ("crates/bits/specs/Eight.antt", "numberOf"),
         ("crates/positions/specs/Promise.antt", "(?:write|read)Refusal"),
     ]:
-        defined.update(named(page(path), r"^%s (\w+) = (\d+)$" % name))
-    check(defined, rules, "refusals of the definitions against the guide")
+        defined = named(page(path), r"^%s (\w+) = (\d+)$" % name)
+        check(len(defined) > 1, True, "refusals of " + path)
+        check(defined, {number: rules.get(number) for number in defined}, "refusals of %s against the guide" % path)
 
 
 SIMPLE = {"packed": packed, "calls": calls, "rows": rows, "hash": hash_values, "file": files, "console": console}

@@ -151,23 +151,23 @@ def named():
     yield "NUL after", whole + b"\0"
     yield "NUL inside", whole.replace(b"1", b"\0", 1)
     yield "NUL alone", b"\0"
-    yield "empty word", ("\n" + r + "\n").encode()
-    yield "empty recording", (v + "\n\n").encode()
+    yield "empty pattern", ("\n" + r + "\n").encode()
+    yield "empty text", (v + "\n\n").encode()
     yield "other digit", whole.replace(b"1", b"2", 1)
     yield "letter", whole.replace(b"0", b"o", 1)
     yield "slash, the byte before 0", whole.replace(b"0", b"/", 1)
     yield "byte 176, a 0 with its top bit set", whole.replace(b"0", b"\xb0", 1)
     yield "space before", b" " + whole
-    yield "space after the word", (v + " \n" + r + "\n").encode()
+    yield "space after the pattern", (v + " \n" + r + "\n").encode()
     yield "space inside", (v[:3] + " " + v[3:] + "\n" + r + "\n").encode()
     yield "tab", whole.replace(b"1", b"\t", 1)
     yield "byte order mark", b"\xef\xbb\xbf" + whole
     yield "line end before", b"\n" + whole
-    yield "word 2,048, recording 4,096", pair("01" * 1024, "01" * 2048)
-    yield "word 2,048 of one digit", pair("1" * 2048, "1" * 4096)
-    yield "word 2,049", pair("1" * 2049, "1" * 4096)
-    yield "recording 4,097", pair("1" * 20, "1" * 4097)
-    yield "word 2,049, recording 0", pair("0" * 2049, "")
+    yield "pattern 2,048, text 4,096", pair("01" * 1024, "01" * 2048)
+    yield "pattern 2,048 of one digit", pair("1" * 2048, "1" * 4096)
+    yield "pattern 2,049", pair("1" * 2049, "1" * 4096)
+    yield "text 4,097", pair("1" * 20, "1" * 4097)
+    yield "pattern 2,049, text 0", pair("0" * 2049, "")
     yield "both too long", pair("0" * 2049, "0" * 4097)
     yield "6,146 bytes in another split", pair("0" * 2050, "0" * 4094)
     yield "longest, one byte after", pair("0" * 2048, "0" * 4096) + b"0"
@@ -176,9 +176,9 @@ def named():
     yield "a million bytes after good input", whole + b"1" * 1000000
     yield "a million characters", b"0" * 1000000
     yield "a million line ends", b"\n" * 1000000
-    yield "word 1, recording 4,096", pair("1", "1" * 4096)
-    yield "word longer than the recording", pair("1" * 30, "1" * 29)
-    yield "word as long as the recording", pair("1" * 30, "1" * 30)
+    yield "pattern 1, text 4,096", pair("1", "1" * 4096)
+    yield "pattern longer than the text", pair("1" * 30, "1" * 29)
+    yield "pattern as long as the text", pair("1" * 30, "1" * 30)
     yield "a hit that would use padding", pair("1000", "0001")
     yield "padding up to the byte", pair("10000000", "0000000100000")
     yield "R2 and V2", pair("110010110010110010110", "110010" * 5 + "110")

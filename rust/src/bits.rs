@@ -132,7 +132,7 @@ impl FromIterator<bool> for Bits {
     }
 }
 
-/// Characters 0 and 1, the first one leftmost in the first byte. No other character is passed over, a space neither.
+/// Characters 0 and 1, the first one leftmost in the first byte. Any other character, a space too, is an error.
 ///
 /// ```
 /// use mitongory::Bits;

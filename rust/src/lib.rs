@@ -155,7 +155,7 @@ pub use text::Text;
 #[doc = include_str!("../README.md")]
 struct Readme;
 
-/// And those of the repository's guide and first page.
+/// The examples of the repository's guide and of its first page are run as well.
 #[cfg(doctest)]
 #[doc = include_str!("../../docs/GUIDE.md")]
 #[doc = include_str!("../../README.md")]

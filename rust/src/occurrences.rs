@@ -11,6 +11,10 @@ use std::iter::FusedIterator;
 /// occurrences that is little.
 const CELLS: usize = 1024;
 
+/// The budget of each call that `next` makes: some milliseconds of work, so that a call makes its tables seldom and yet
+/// ends soon.
+const CALL_STEPS: u32 = 1 << 20;
+
 /// An iterator over all occurrences of a pattern, rising: the places at which it occurs in a text.
 ///
 /// It calls [`search`] with a list of its own and goes on from the mark. That no occurrence is missing and none comes
@@ -202,7 +206,7 @@ impl Iterator for Occurrences<'_> {
 
     fn next(&mut self) -> Option<u32> {
         loop {
-            match self.next_within(u32::MAX) {
+            match self.next_within(CALL_STEPS) {
                 Progress::Occurrence(place) => return Some(place),
                 Progress::Working(_) => {}
                 Progress::Done => return None,

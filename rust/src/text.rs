@@ -72,7 +72,7 @@ impl<'a> Text<'a> {
     ///
     /// # Errors
     ///
-    /// [`Refusal::BeyondEnd`] where fewer than eight bits follow.
+    /// [`Refusal::BeyondEnd`] where there are fewer than eight bits from the place on.
     pub fn eight_bits(&self, place: u32) -> Result<u8, Refusal> {
         call::answer(|cell| ffi::eight_bits(self.bytes(), self.bit_count(), place, cell))
     }

@@ -17,7 +17,7 @@ use Rattle.search.specs.Verdict.{Verdict, refused, accepted}
 use Rattle.capi.specs.Told.{resultOf, answerAfter}
 use Rattle.capi.specs.Scan.{Call, searchVerdict, runTells, listAfter, Searches}
 
--- what a call is handed beside text, word and mark
+-- what a call is handed beside text, pattern and mark
 pub record Asked : Type 0 where
   pub method : ℕ
   pub budget : ℕ
@@ -147,7 +147,7 @@ lastStop (c ∷ cs) = later (stopIn c) (lastStop cs)
 
 -- Each call's result, answer cells, list and mark are those that the machine gives, or those of its refusal; the joined
 -- places are all occurrences before the last mark, rising, each once; the last accepted call stopped with 0,
--- done, just if the word no longer fits from the last mark on; a call that stopped with 2, spent, made all the steps of its
+-- done, just if the pattern no longer fits from the last mark on; a call that stopped with 2, spent, made all the steps of its
 -- budget, and no call made more; and the steps in all are at most the last mark and the calls that stopped with full.
 pub record Whole (t : Packed) (w : Pattern) (calls : List Made) : Type 0 where
   pub seen-is : seen 0 calls ≡ machineSeen t w 0 (map (λ (c : Made). c .asked) calls)

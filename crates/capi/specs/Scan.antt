@@ -66,7 +66,7 @@ verdictBy (known x) q = unlessCells 4 (q .answer) (refused answerCellsMissing) (
 unfoldable pub searchVerdict : Call → Verdict Run
 searchVerdict q = verdictBy (methodNamed (q .method)) q
 
--- the four answer cells: steps, hits, mark, stop
+-- the four answer cells: steps, occurrences, mark, stop
 abbrev pub runTells : Verdict Run → Told
 runTells (refused number) = refuses number
 runTells (accepted r) = gives (r .steps ∷ length (r .written) ∷ r .mark ∷ stopNumber (r .ending) ∷ [])

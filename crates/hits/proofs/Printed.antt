@@ -27,10 +27,11 @@ use Rattle.lines.proofs.Bits.{packed-length, packed-bit}
 use Rattle.lines.proofs.Input.{parsed-good, good-parsed, beginning}
 use Rattle.hits.specs.Printed.{badInput, textIn, patternIn, asked, lineOf, searchLine, fourLines, printedOf, printed}
 use Rattle.hits.specs.Claims.{Stands, Listed, Prints}
+use Rattle.hits.specs.Report.{inputMost}
 
 -- ---- good input
 
-module _ (w t : List ℕ) (word-bits : Bits w) (text-bits : Bits t) where
+module _ (w t : List ℕ) (pattern-bits : Bits w) (text-bits : Bits t) where
   -- an occurrence in the packed bytes is one in the lines
   to-stands : (p : ℕ) → Occurs (textIn t) (patternIn w) p → Stands w t p
   to-stands p o =
@@ -40,7 +41,7 @@ module _ (w t : List ℕ) (word-bits : Bits w) (text-bits : Bits t) where
         same = λ j l.
             sym (packed-bit t text-bits (p + j) (omega (arith, b .0)))
             ∙ b .1 j l
-            ∙ packed-bit w word-bits j l;
+            ∙ packed-bit w pattern-bits j l;
       }
 
   from-stands : (p : ℕ) → 1 ≤ length w → Stands w t p → Occurs (textIn t) (patternIn w) p
@@ -51,16 +52,16 @@ module _ (w t : List ℕ) (word-bits : Bits w) (text-bits : Bits t) where
         λ j l.
             packed-bit t text-bits (p + j) (omega arith)
             ∙ h .same j l
-            ∙ sym (packed-bit w word-bits j l),
+            ∙ sym (packed-bit w pattern-bits j l),
       )
 
 module _ (s w t : List ℕ) (g : Good s w t) (x : Method) where
   -- no row before the fifth holds, and none after it
   some : (length w ≡ 0 → ⊥)
-  some e = omega (arith, g .word-some)
+  some e = omega (arith, g .pattern-some)
 
-  word-whole : bytesFor (length w) ≤ length (packed w)
-  word-whole = rw (packed-length w) (omega arith)
+  pattern-whole : bytesFor (length w) ≤ length (packed w)
+  pattern-whole = rw (packed-length w) (omega arith)
 
   text-whole : bytesFor (length t) ≤ length (packed t)
   text-whole = rw (packed-length t) (omega arith)
@@ -75,14 +76,14 @@ module _ (s w t : List ℕ) (g : Good s w t) (x : Method) where
   pub too-short : unfit x (length w) ≡ true → searchLine (textIn t) (patternIn w) x ≡ refusedLine x 5
   unfolding searchLine lineOf verdict rows judge asked
   too-short h =
-      simp (le-ltb _ _ text-short, le-ltb _ _ text-whole, ne-eqb _ _ some, le-ltb _ _ (g .word-most), le-ltb _ _ word-whole, h)
+      simp (le-ltb _ _ text-short, le-ltb _ _ text-whole, ne-eqb _ _ some, le-ltb _ _ (g .pattern-most), le-ltb _ _ pattern-whole, h)
 
   module _ (fit : unfit x (length w) ≡ false) where
     none-holds : AllFail (rows (asked (textIn t) (patternIn w) x))
     unfolding rows asked
     none-holds = (
       le-ltb _ _ text-short,
-      (le-ltb _ _ text-whole, (rw (ne-eqb _ _ some, le-ltb _ _ (g .word-most)), (le-ltb _ _ word-whole, (fit, (le-ltb (places (textIn t) (patternIn w)) 0 (omega arith), (le-ltb _ _ cells, tt)))))),
+      (le-ltb _ _ text-whole, (rw (ne-eqb _ _ some, le-ltb _ _ (g .pattern-most)), (le-ltb _ _ pattern-whole, (fit, (le-ltb (places (textIn t) (patternIn w)) 0 (omega arith), (le-ltb _ _ cells, tt)))))),
     )
 
     what-is-left : Left (textIn t) (patternIn w) 0 (2 ^ 32 - 1) (places (textIn t) (patternIn w)) (machine (asked (textIn t) (patternIn w) x))
@@ -92,7 +93,7 @@ module _ (s w t : List ℕ) (g : Good s w t) (x : Method) where
         (left x (textIn t) (patternIn w) fit (2 ^ 32 - 1) 0 (places (textIn t) (patternIn w)) (omega arith))
 
     all-places : places (textIn t) (patternIn w) ≤ 4096
-    all-places = omega (arith, g .word-some, g .text-most)
+    all-places = omega (arith, g .pattern-some, g .text-most)
 
     ends : (r : Run) → Left (textIn t) (patternIn w) 0 (2 ^ 32 - 1) (places (textIn t) (patternIn w)) r → r .ending ≡ done
     ends r l = go (r .ending) refl
@@ -126,9 +127,9 @@ module _ (s w t : List ℕ) (g : Good s w t) (x : Method) where
           exactly = λ p.
               let iff = occurrences-exactly (textIn t) (patternIn w) 0 (places (textIn t) (patternIn w)) p in
               rw all (
-                λ m. to-stands w t (g .word-bits) (g .text-bits) p (iff .0 m .0),
+                λ m. to-stands w t (g .pattern-bits) (g .text-bits) p (iff .0 m .0),
                 λ h.
-                    let o = from-stands w t (g .word-bits) (g .text-bits) p (g .word-some) h in
+                    let o = from-stands w t (g .pattern-bits) (g .text-bits) p (g .pattern-some) h in
                     iff .1 (o, omega arith, o .inside),
               );
         }
@@ -180,6 +181,6 @@ bad-iff s = (
     go none (lines w t) e = absurd (none w t (parsed-good s w t e))
 
 -- input that is too long is judged by its first bytes, those that the program reads
-pub first-bytes : (s : List ℕ) → printed (take 6147 s) ≡ printed s
+pub first-bytes : (s : List ℕ) → printed (take inputMost s) ≡ printed s
 unfolding printed
-first-bytes s = rw (beginning s 6147 (omega arith))
+first-bytes s = rw (beginning s inputMost (omega arith))

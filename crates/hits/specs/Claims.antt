@@ -36,7 +36,7 @@ AllListed w t x = Listed w t x (machine (asked (textIn t) (patternIn w) x))
 abbrev pub TooShort : List ℕ → List ℕ → Method → Type 0
 TooShort w t x = searchLine (textIn t) (patternIn w) x ≡ refusedLine x 5
 
--- What is printed for the lines w and t: the ways list all occurrences, but for words that are too short for hash and skip.
+-- What is printed for the lines w and t: the ways list all occurrences, but for patterns that are too short for hash and skip.
 pub record Prints (s w t : List ℕ) : Type 0 where
   pub four : printed s ≡ fourLines (textIn t) (patternIn w)
   pub plain : AllListed w t Plain

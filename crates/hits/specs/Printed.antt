@@ -17,7 +17,7 @@ use Rattle.lines.specs.Line.{acceptedLine, refusedLine}
 abbrev pub badInput : List ℕ
 badInput = 98 ∷ 97 ∷ 100 ∷ 32 ∷ 105 ∷ 110 ∷ 112 ∷ 117 ∷ 116 ∷ 10 ∷ []
 
--- the bits of the input's second line as a recording, and those of its first line as a word
+-- the bits of the input's second line as a text, and those of its first line as a pattern
 abbrev pub textIn : List ℕ → Packed
 textIn bits = record { bytes = packed bits; count = length bits }
 
@@ -52,7 +52,7 @@ searchLine t w x = lineOf x (verdict (asked t w x))
 unfoldable pub fourLines : Packed → Pattern → List ℕ
 fourLines t w = searchLine t w Plain ++ (searchLine t w Hash ++ (searchLine t w Skip ++ searchLine t w Wide))
 
--- what is printed for an input that is bad, and for one that holds the word w and the recording t
+-- what is printed for an input that is bad, and for one that holds the pattern w and the text t
 unfoldable pub printedOf : Parsed → List ℕ
 printedOf bad = badInput
 printedOf (lines w t) = fourLines (textIn t) (patternIn w)

@@ -4,6 +4,10 @@ use Rattle.search.specs.declared.Outcome.{Outcome}
 use Rattle.search.specs.declared.Outcome.the-variants.{Accepted, Refused}
 use Rattle.search.specs.Verdict.{numberOfRefusal}
 
+-- how many bytes are read at most: one more than the longest good input has
+abbrev pub inputMost : ℕ
+inputMost = 6147
+
 -- how many places there are at most, how many bytes a line takes then (28 and eleven for each place), and four of them
 abbrev pub placesMost : ℕ
 placesMost = 4096

@@ -140,10 +140,10 @@ second-good s w rest v u (line t []) f k e =
     rw (← g .0 .0, ← g .0 .1)
     (record {
       shape = k .shape ∙ ap (λ (x : List ℕ). map charOf w ++ (10 ∷ x)) (two .shape);
-      word-bits = k .bits;
+      pattern-bits = k .bits;
       text-bits = two .bits;
-      word-some = b .0;
-      word-most = b .1 .0;
+      pattern-some = b .0;
+      pattern-most = b .1 .0;
       text-most = b .1 .1;
     })
 
@@ -158,9 +158,9 @@ parsed-good s w t e = first-good s w t (readLine s) refl e
 
 pub good-parsed : (s w t : List ℕ) → Good s w t → parse s ≡ lines w t
 good-parsed s w t g =
-    two-lines s w (map charOf t ++ (10 ∷ [])) t [] (rw (g .shape) (shape-line w (map charOf t ++ (10 ∷ [])) (g .word-bits))) (shape-line t [] (g .text-bits))
+    two-lines s w (map charOf t ++ (10 ∷ [])) t [] (rw (g .shape) (shape-line w (map charOf t ++ (10 ∷ [])) (g .pattern-bits))) (shape-line t [] (g .text-bits))
     ∙ none-after w t [] refl
-    ∙ rw (fits-good (length w) (length t) (g .word-some) (g .word-most) (g .text-most))
+    ∙ rw (fits-good (length w) (length t) (g .pattern-some) (g .pattern-most) (g .text-most))
 
 pub parse-iff : (s w t : List ℕ) → (parse s ≡ lines w t) ↔ Good s w t
 parse-iff s w t = (parsed-good s w t, good-parsed s w t)
@@ -170,7 +170,7 @@ parse-iff s w t = (parsed-good s w t, good-parsed s w t)
 pub good-length : (s w t : List ℕ) → Good s w t → length s ≤ longest
 good-length s w t g =
     rw (g .shape)
-    (simp (length-append, length-map) (omega (arith, g .word-most, g .text-most)))
+    (simp (length-append, length-map) (omega (arith, g .pattern-most, g .text-most)))
 
 pub long-bad : (s : List ℕ) → longest < length s → parse s ≡ bad
 long-bad s h = go (parse s) refl

@@ -67,10 +67,10 @@ Bits (b ∷ bs) = (b < 2) × Bits bs
 -- the input that holds the pattern w and the text t, as document 01 has it
 pub record Good (s w t : List ℕ) : Type 0 where
   pub shape : s ≡ map charOf w ++ (10 ∷ (map charOf t ++ (10 ∷ [])))
-  pub word-bits : Bits w
+  pub pattern-bits : Bits w
   pub text-bits : Bits t
-  pub word-some : 1 ≤ length w
-  pub word-most : length w ≤ 2048
+  pub pattern-some : 1 ≤ length w
+  pub pattern-most : length w ≤ 2048
   pub text-most : length t ≤ 4096
 
 -- the bytes of the longest good input: longer input is bad, and need not be stored

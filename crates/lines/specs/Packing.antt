@@ -1,4 +1,4 @@
--- The bits of a line in bytes, packed as a recording and a word are.
+-- The bits of a line in bytes, packed as a text and a pattern are.
 use Prim.Native.Nat.{ℕ, zero, suc, _+_, _*_}
 use mathlib.Core.Path.{_≡_}
 use mathlib.Core.List.{List, [], _∷_, map}

@@ -1,5 +1,5 @@
--- The starred rows of "Papers from the course", in document 01's order, as one claim about the definitions. The recordings R1 and R2 and the
--- words V1 and V2 are those of rules/specs/Papers.antt.
+-- The starred rows of "Papers from the course", in document 01's order, as one claim about the definitions. The texts R1 and R2 and the
+-- patterns V1 and V2 are those of rules/specs/Papers.antt.
 use mathlib.Core.Path.{_≡_}
 use mathlib.Core.List.{[], _∷_}
 use Rattle.rules.specs.declared.Method.the-variants.{Plain, Hash, Skip, Wide}

@@ -33,7 +33,7 @@ abbrev pub cutSteps : ℕ
 cutSteps = 1
 
 -- "If a hit finds no free cell, the mark becomes that hit, the step is counted, and the call stops with full": of the
--- places found, the first take the free cells, and the one after them is that hit
+-- places found, the first take the free cells, and the one after them is that occurrence
 unfoldable pub cut : ℕ → List ℕ → Run
 cut cells found =
     record { steps = cutSteps; written = take cells found; mark = getD found cells 0; ending = full (getD found cells 0) }

@@ -1,4 +1,4 @@
--- The recordings and words of "Papers from the course", and what its rows say of a search. The rows themselves are one claim in the
+-- The texts and patterns of "Papers from the course", and what its rows say of a search. The rows themselves are one claim in the
 -- crate `papers`, which is above this one and the list file.
 use Prim.Native.Nat.{ℕ, zero, suc, _-_, _^_}
 use mathlib.Core.List.{List, [], _∷_}
@@ -25,14 +25,14 @@ R2 = record { bytes = 0b11001011 ∷ 0b00101100 ∷ 0b10110010 ∷ 0b11001011 �
 abbrev pub V2 : Pattern
 V2 = record { bytes = 0b11001011 ∷ 0b00101100 ∷ 0b10110000 ∷ []; count = 21 }
 
--- the empty recording, and 11111
+-- the empty text, and 11111
 abbrev pub empty : Packed
 empty = record { bytes = []; count = 0 }
 
 abbrev pub ones5 : Packed
 ones5 = record { bytes = 0b11111000 ∷ []; count = 5 }
 
--- the words 1 and 111
+-- the patterns 1 and 111
 abbrev pub one : Pattern
 one = record { bytes = 0b10000000 ∷ []; count = 1 }
 
