@@ -105,7 +105,9 @@ impl fmt::Display for Refusal {
             Refusal::PatternLength => "the pattern has no bit or more than 2,048 bits",
             Refusal::PatternBytesMissing => "the pattern has fewer bytes than its bits take",
             Refusal::PatternTooShort => "the pattern is too short: hash takes 8 bits or more, skip 15 or more",
-            Refusal::BeyondEnd => "the mark is above the number of places, or there are fewer than eight bits from the place on",
+            Refusal::BeyondEnd => {
+                "the mark is above the number of places, or there are fewer than eight bits from the place on"
+            }
             Refusal::ScratchTooShort => "the scratch has fewer than 4,224 cells",
             Refusal::ListNotRising => "the positions do not rise strictly below 2^30",
             Refusal::TargetTooShort => "the target has fewer bytes than the list's file",
