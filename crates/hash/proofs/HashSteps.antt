@@ -22,7 +22,7 @@ use Rattle.rules.specs.Step.{finds, ahead, next}
 use Rattle.matcher.specs.Progress.{Ready, GoodPattern, Stepped}
 use Rattle.rules.proofs.Occurrence.{occurs-inside}
 use Rattle.rules.proofs.Hash.{LeastMeeting, again-least, hash-compares}
-use Rattle.matcher.proofs.Writing.{stepped-none, stepped-one, stepped-no-cell}
+use Rattle.matcher.proofs.Writing.{alone-cut, alone-hit, alone-miss}
 
 pub long-enough : (w : Pattern) → GoodPattern Hash w → 8 ≤ w .count
 long-enough w g = ltb-false (w .count) 8 (g .fit)
@@ -108,16 +108,11 @@ module _ (t : Packed) (w : Pattern) (cells : List ℕ) (ready : Ready Hash t w c
   step-finds s inside = ap (λ (b : Bool). keep b s []) (hash-compares t w s long inside ∙ occurs-inside t w s inside)
 
   module _ (s : ℕ) (inside : s < places t w) (before : List ℕ) (had : ℕ) where
-    -- the pattern stands at s, and no cell is free
     pub stepped-cut : matches t w s ≡ true → had ≡ length before → Stepped Hash t w s before had s had true before
-    stepped-cut hit h = stepped-no-cell Hash t w s before had (step-finds s inside ∙ ap (λ (b : Bool). keep b s []) hit) h
+    stepped-cut = alone-cut Hash t w s before had (step-finds s inside)
 
-    -- it stands there, and a cell is free
     pub stepped-hit : (at : ℕ) → at ≡ next Hash t w s → matches t w s ≡ true → had < length before → Stepped Hash t w s before had at (had + 1) false (set before had s)
-    stepped-hit at moved hit h =
-        rw moved (stepped-one Hash t w s before had (step-finds s inside ∙ ap (λ (b : Bool). keep b s []) hit) h)
+    stepped-hit = alone-hit Hash t w s before had (step-finds s inside)
 
-    -- it does not stand there
     pub stepped-miss : (at : ℕ) → at ≡ next Hash t w s → matches t w s ≡ false → had ≤ length before → Stepped Hash t w s before had at had false before
-    stepped-miss at moved miss h =
-        rw moved (stepped-none Hash t w s before had (step-finds s inside ∙ ap (λ (b : Bool). keep b s []) miss) h)
+    stepped-miss = alone-miss Hash t w s before had (step-finds s inside)

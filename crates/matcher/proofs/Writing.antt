@@ -1,7 +1,7 @@
 -- Places written to a list one after the other, and what makes a step of them: every method's step ends by these laws.
 -- Assumes nothing.
 use mathlib.Core.Path.{_≡_, refl, sym, ap, ap₂, subst, _∙_}
-use mathlib.Core.Bool.{true, false}
+use mathlib.Core.Bool.{Bool, true, false}
 use mathlib.Core.List.{List, [], _∷_, _++_}
 use Prim.Native.Nat.{ℕ, suc, _+_, _-_, _≤_, _<_}
 use native.Mathlib.Nat.{add-zero}
@@ -11,7 +11,9 @@ use lib.ListN.{length, getD, take, set, length-append}
 use lib.Seq.{sets, length-sets, take-all, take-at, getD-at}
 use Rattle.bits.specs.Packed.{Packed}
 use Rattle.rules.specs.declared.Method.{Method}
+use Rattle.rules.specs.Ranges.{keep}
 use Rattle.rules.specs.Pattern.{Pattern}
+use Rattle.rules.specs.Occurrence.{matches}
 use Rattle.rules.specs.Step.{finds, next}
 use Rattle.matcher.specs.Progress.{Writing, Stepped}
 
@@ -99,3 +101,20 @@ module _ (x : Method) (t : Packed) (w : Pattern) (s : ℕ) (before : List ℕ) (
   stepped-no-cell e h =
       let all : Writing before had [] before (length before) = record { cells = refl; count = omega arith; fits = omega arith } in
       subst (λ (n : ℕ). Stepped x t w s before had s n true before) (sym h) (stepped-full [] [] before s (omega arith) e all)
+
+  -- a step that decides its own place alone, by comparison
+  module _ (alone : finds x t w s ≡ keep (matches t w s) s []) where
+    found : (b : Bool) → matches t w s ≡ b → finds x t w s ≡ keep b s []
+    found b e = alone ∙ ap (λ (b : Bool). keep b s []) e
+
+    -- the pattern stands at s, and no cell is free
+    pub alone-cut : matches t w s ≡ true → had ≡ length before → Stepped x t w s before had s had true before
+    alone-cut hit h = stepped-no-cell (found true hit) h
+
+    -- it stands there, and a cell is free
+    pub alone-hit : (at : ℕ) → at ≡ next x t w s → matches t w s ≡ true → had < length before → Stepped x t w s before had at (had + 1) false (set before had s)
+    alone-hit at moved hit h = rw moved (stepped-one (found true hit) h)
+
+    -- it does not stand there
+    pub alone-miss : (at : ℕ) → at ≡ next x t w s → matches t w s ≡ false → had ≤ length before → Stepped x t w s before had at had false before
+    alone-miss at moved miss h = rw moved (stepped-none (found false miss) h)

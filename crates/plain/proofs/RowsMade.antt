@@ -12,7 +12,7 @@ use lib.ListN.{length, getD, set, drop, length-set, length-drop}
 use lib.Seq.{getD-set-same, getD-set-other, getD-drop, ext-getD}
 use borrow.Author.Tests.{leb-true, le-leb, lt-leb, ltb-true, ltb-false}
 use Rattle.bits.specs.Packed.{bitOf, bitAt, bitsAt}
-use Rattle.bits.proofs.Weight.{weight-and}
+use Rattle.bits.proofs.Weight.{weight-zero, weight-and}
 use Rattle.bits.proofs.Run.{bit-lt, bit-of-bits}
 use Rattle.rules.specs.declared.Method.the-variants.{Plain}
 use Rattle.rules.specs.Pattern.{Pattern}
@@ -21,7 +21,6 @@ use Rattle.matcher.specs.Tables.{rowChunks, cellsFor, Prepared}
 use Rattle.plain.specs.RowCells.{shiftedBit, Filled}
 use Rattle.rules.proofs.Ranges.{same-test, eq-or-below}
 use Rattle.rules.proofs.Plain.{mask-bit-is, row-bit-is}
-use Rattle.plain.proofs.Shifts.{no-ones}
 
 -- no row of the cells k
 pub filled-none : (k prev x prevMask mask : ℕ) (before : List ℕ) → Filled k 0 prev x prevMask mask before before
@@ -151,8 +150,8 @@ module _ (w : Pattern) where
       record {
         row-is = λ i c j l h u. absurd (omega arith);
         mask-is = λ i c j l h u. absurd (omega arith);
-        prev-is = λ j h. no-ones (63 - j) ∙ sym (row-bit-is w 64 (8 * 0 + j / 8) (j % 8) false (out j h));
-        prev-mask-is = λ j h. no-ones (63 - j) ∙ sym (mask-bit-is w 64 (8 * 0 + j / 8) (j % 8) false (out j h));
+        prev-is = λ j h. weight-zero (63 - j) ∙ sym (row-bit-is w 64 (8 * 0 + j / 8) (j % 8) false (out j h));
+        prev-mask-is = λ j h. weight-zero (63 - j) ∙ sym (mask-bit-is w 64 (8 * 0 + j / 8) (j % 8) false (out j h));
         size = refl;
         rest = λ y h. refl;
       }

@@ -1,60 +1,23 @@
--- Bits of shifts within 64 bits: of a shift to the left, of all ones, and of 64 bits put together from two runs.
+-- Bits of shifts within 64 bits: of all ones, and of 64 bits put together from two runs.
 -- Assumes nothing.
 use Prim.Native.Nat.{ℕ, _+_, _-_, _*_, _/_, _%_, _^_, _≤_, _<_, max}
 use mathlib.Core.Path.{_≡_, refl, ap, _∙_}
 use mathlib.Core.Bool.{Bool, true, false, cond}
-use native.Mathlib.Nat.{zero-div}
 use native.Mathlib.Omega.{arith}
 use lib.Bits.{bitOr}
-use lib.Dec.{ltb, eqb}
-use borrow.Author.Tests.{ltb-true, ltb-false, lt-ltb, le-ltb, eqb-true}
+use lib.Dec.{ltb}
+use borrow.Author.Tests.{ltb-true, ltb-false, lt-ltb, le-ltb}
 use Rattle.bits.specs.Packed.{weight, bitOf}
-use Rattle.bits.proofs.Weight.{weight-out, weight-shr, weight-shl, weight-shl-low, weight-mod, weight-or}
-use Rattle.rules.specs.Ranges.{every}
+use Rattle.bits.proofs.Weight.{weight-out, weight-shr, shl-low, shl-high, weight-zero, weight-ones, weight-or}
 use Rattle.plain.specs.RowCells.{shiftedBit}
-use Rattle.rules.proofs.Ranges.{every-at}
-
--- the bit of weight 2^n of a shift to the left by s, below the shift and from it on
-pub shl-low : (x s n : ℕ) → n < 64 → n < s → weight (x * 2 ^ s % 2 ^ 64) n ≡ 0
-shl-low x s n h l = weight-mod (x * 2 ^ s) {w = 64} {i = n} h ∙ weight-shl-low x {s = s} {i = n} l
-
-pub shl-high : (x s n : ℕ) → n < 64 → s ≤ n → weight (x * 2 ^ s % 2 ^ 64) n ≡ weight x (n - s)
-shl-high x s n h l =
-    let there : n ≡ s + (n - s) = omega arith in
-    weight-mod (x * 2 ^ s) {w = 64} {i = n} h
-    ∙ ap (λ (i : ℕ). weight (x * 2 ^ s) i) there
-    ∙ weight-shl x s (n - s)
-
--- every bit of the greatest number of 64 bits is 1
-pub all-ones : (n : ℕ) → n < 64 → weight 18446744073709551615 n ≡ 1
-unfolding every
-all-ones n h = eqb-true _ _ (every-at 64 (λ i. eqb (weight 18446744073709551615 i) 1) refl n h)
-
-pub no-ones : (n : ℕ) → weight 0 n ≡ 0
-no-ones n = rw zero-div
 
 -- ones before bit m of the bits from bit a on
 module _ (a m : ℕ) where
   pub ones-none : m ≤ a → (j : ℕ) → j < 64 → bitOf 64 0 j ≡ cond (ltb (a + j) m) 1 0
-  ones-none h j l = no-ones (63 - j) ∙ rw (le-ltb (a + j) m (omega arith))
+  ones-none h j l = weight-zero (63 - j) ∙ rw (le-ltb (a + j) m (omega arith))
 
   pub ones-all : a + 64 ≤ m → (j : ℕ) → j < 64 → bitOf 64 18446744073709551615 j ≡ cond (ltb (a + j) m) 1 0
-  ones-all h j l = all-ones (63 - j) (omega arith) ∙ rw (lt-ltb (a + j) m (omega arith))
-
-  pub ones-some : a < m → m < a + 64 → (j : ℕ) → j < 64
-      → bitOf 64 (18446744073709551615 * 2 ^ (a + 64 - m) % 2 ^ 64) j ≡ cond (ltb (a + j) m) 1 0
-  ones-some h g j l = go (ltb (a + j) m) refl
-    where
-      s : ℕ
-      s = a + 64 - m
-
-      go : (b : Bool) → ltb (a + j) m ≡ b → weight (18446744073709551615 * 2 ^ s % 2 ^ 64) (63 - j) ≡ cond b 1 0
-      go true e =
-          let below = ltb-true (a + j) m e in
-          shl-high 18446744073709551615 s (63 - j) (omega arith) (omega arith) ∙ all-ones (63 - j - s) (omega arith)
-      go false e =
-          let from = ltb-false (a + j) m e in
-          shl-low 18446744073709551615 s (63 - j) (omega arith) (omega arith)
+  ones-all h j l = weight-ones 64 (63 - j) (omega arith) ∙ rw (lt-ltb (a + j) m (omega arith))
 
 only-left : {a b c : ℕ} → a ≡ c → b ≡ 0 → max a b ≡ c
 only-left p q = omega arith

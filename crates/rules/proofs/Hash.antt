@@ -22,8 +22,8 @@ use Rattle.rules.specs.Hash.{meets, hashOf, hashAgain, lastEight, hashFi
 use Rattle.rules.specs.Step.{finds, ahead, Sound}
 use Rattle.rules.proofs.Ranges.{and-right, and-both, same-test, implies-to, to-implies, every-at, to-every, Least, least-is}
 use Rattle.rules.proofs.Pattern.{agrees-iff}
-use Rattle.rules.proofs.Occurrence.{occurs-iff, not-occurs, occurs-inside, occurrences-one, occurrences-further}
-use Rattle.rules.proofs.Step.{cut-at-places}
+use Rattle.rules.proofs.Occurrence.{occurs-iff, not-occurs, occurs-inside}
+use Rattle.rules.proofs.Step.{Moved, one-place}
 
 -- the condition, at each bit that it speaks of
 pub meets-at : (w : Pattern) (B d : ℕ) → meets w B d ≡ true → (j : ℕ) → j < 8 → 8 + d ≤ w .count + j
@@ -146,19 +146,15 @@ module _ (t : Packed) (w : Pattern) (s : ℕ) (long : 8 ≤ w .count) where
       (λ h.
       and-both (eq-eqb _ _ (hash-at-occurrence (occurs-iff t w s .0 h))) (sym (occurs-inside t w s inside) ∙ h))
 
-  -- the move is forward, and no occurrence lies strictly inside it
-  pub record HashMoved (x : ℕ) : Type 0 where
-    pub up : s < x
-    pub none-strictly : (p : ℕ) → s + 1 ≤ p → p < x → occurs t w p ≡ false
-
-  pub hash-move : HashMoved (hashNext t w s)
+  -- the move
+  pub hash-move : Moved t w s (hashNext t w s)
   unfolding hashNext
   hash-move = go (eqb (hashOf w (lastEight t w s)) 0) refl
     where
       B : ℕ
       B = lastEight t w s
 
-      go : (z : Bool) → eqb (hashOf w B) 0 ≡ z → HashMoved (s + cond z (hashAgain w B) (hashOf w B))
+      go : (z : Bool) → eqb (hashOf w B) 0 ≡ z → Moved t w s (s + cond z (hashAgain w B) (hashOf w B))
       go true e =
           let g = again-least w B (omega arith) in
           record { up = omega (arith, g .low); none-strictly = none-inside 1 (hashAgain w B) g }
@@ -170,9 +166,4 @@ module _ (t : Packed) (w : Pattern) (s : ℕ) (long : 8 ≤ w .count) where
 
   pub hash-sound : s < places t w → Sound Hash t w s
   unfolding finds ahead hashFinds
-  hash-sound inside =
-      let r = hash-move in
-      cut-at-places Hash t w s inside (r .up)
-      (ap (λ (b : Bool). keep b s []) (hash-compares inside)
-      ∙ sym (occurrences-one t w s)
-      ∙ occurrences-further t w s (s + 1) (hashNext t w s) (omega arith) (omega (arith, r .up)) (r .none-strictly))
+  hash-sound inside = one-place Hash t w s inside (ap (λ (b : Bool). keep b s []) (hash-compares inside)) hash-move

@@ -6,7 +6,7 @@ use mathlib.Core.Bool.{Bool, true, false, _&&_, cond, false≢true}
 use mathlib.Core.List.{List, [], _++_, List·Memᴰ, List·Memᴰ·head, List·Memᴰ·tail, List·Memᴰ·not-nil, List·Memᴰ·cases-cons}
 use mathlib.Core.Option.{Option, none, some}
 use native.Mathlib.Nat.{add-zero, zero-add, suc-add, not-suc-le-zero, le-of-suc-le-suc, sub-self}
-use native.Mathlib.Decide.{ℕ-discrete}
+use native.Mathlib.Decide.{ℕ-discrete, decLe}
 use native.Mathlib.Omega.{arith}
 use lib.ListN.{length, getD, take}
 use Rattle.rules.specs.Ranges.{implies, every, keep, among, Rising, least, greatest}
@@ -68,6 +68,12 @@ pub to-every : (k : ℕ) (f : ℕ → Bool) → ((j : ℕ) → j < k → f j ≡
 unfolding every
 to-every zero f h = refl
 to-every (suc k) f h = and-both (to-every k f (λ j l. h j (omega arith))) (h k (omega arith))
+
+-- tests that are the same below k pass there together
+pub every-same : (k : ℕ) (f g : ℕ → Bool) → ((j : ℕ) → j < k → f j ≡ g j) → every k f ≡ every k g
+unfolding every
+every-same zero f g h = refl
+every-same (suc k) f g h = rw (every-same k f g (λ j l. h j (omega arith)), h k (omega arith))
 
 -- among
 
@@ -267,6 +273,22 @@ greatest-is f (suc k) = go (f k) refl (greatest f k) (greatest-is f k)
     go false e none h = λ p l. at-last e p (h p) l
     go false e (some j) h =
         record { below = omega arith; passes = h .passes; above = λ p l u. at-last e p (h .above p l) u }
+
+-- a number that passes, above which none does, is the greatest
+pub greatest-some : (f : ℕ → Bool) (k r : ℕ) → r < k → f r ≡ true → ((p : ℕ) → r < p → p < k → f p ≡ false) → greatest f k ≡ some r
+greatest-some f k r l e above = go (greatest f k) (greatest-is f k)
+  where
+    go : (o : Option ℕ) → IsGreatest f k o → o ≡ some r
+    go none h = absurd (false≢true (sym (h r l) ∙ e))
+    go (some j) h = pick (ℕ-discrete j r)
+      where
+        pick : Dec (j ≡ r) → some j ≡ some r
+        pick (yes q) = ap some q
+        pick (no n) = apart (decLe j r)
+          where
+            apart : Dec (j ≤ r) → some j ≡ some r
+            apart (yes b) = absurd (false≢true (sym (h .above r (omega arith) l) ∙ e))
+            apart (no b) = absurd (false≢true (sym (above j (omega arith) (h .below)) ∙ h .passes))
 
 -- two tests that are the same below k have the same greatest number
 pub greatest-same : (f g : ℕ → Bool) (k : ℕ) → ((p : ℕ) → p < k → f p ≡ g p) → greatest f k ≡ greatest g k

@@ -15,15 +15,15 @@ use lib.Pow.{shr-le}
 use lib.Seq.{getD-set-same, getD-set-other, drop-set-lt}
 use borrow.Author.Tests.{le-leb, lt-leb}
 use Rattle.bits.specs.Packed.{bitAt, bitOf, weight}
-use Rattle.bits.proofs.Weight.{weight-out, weight-shr, weight-shl, weight-shl-low, weight-mod, weight-or}
+use Rattle.bits.proofs.Weight.{bit-or-bit, weight-out, weight-shr, weight-shl, weight-shl-low, weight-mod, weight-zero, weight-ones, weight-or}
 use Rattle.bits.proofs.Run.{bit-lt}
 use Rattle.bits.proofs.Loads.{bit-in-byte}
 use Rattle.rules.specs.Pattern.{Pattern, agrees}
 use Rattle.rules.proofs.Ranges.{not-true-false, eq-or-below}
-use Rattle.rules.proofs.Pattern.{agrees-iff}
+use Rattle.rules.proofs.Pattern.{agrees-one, agrees-zero}
 use Rattle.matcher.specs.Tables.{passes}
 use Rattle.wide.specs.Flags.{Enters, Entered, moved}
-use Rattle.wide.proofs.WideTables.{bitFor, bit-or-bit, weight-zero, weight-ones, half-weight, passes-high, passes-first, passes-along, Flags, Before, before-next, Filled}
+use Rattle.wide.proofs.WideTables.{bitFor, half-weight, passes-high, passes-first, passes-along, Flags, Before, before-next, Filled}
 
 -- The bits that enter
 
@@ -63,21 +63,6 @@ weight-not (suc k) x (suc i) h l =
     half p r e u = omega arith
 
 module _ (w : Pattern) where
-  -- whether the pattern's bit is 0 or 1
-  agrees-one : (p : ℕ) → bitAt (w .bytes) p ≡ bitFor (agrees w p 1)
-  agrees-one p =
-      ⊎-elim
-      (λ e. e ∙ sym (ap bitFor (not-true-false (agrees w p 1) (λ t. absurd (omega (arith, agrees-iff w p 1 .0 t))))))
-      (λ e. e ∙ sym (ap bitFor (agrees-iff w p 1 .1 (sym e))))
-      (bit-or-bit (bitAt (w .bytes) p) (bit-lt (w .bytes) p))
-
-  agrees-zero : (p : ℕ) → 1 - bitAt (w .bytes) p ≡ bitFor (agrees w p 0)
-  agrees-zero p =
-      ⊎-elim
-      (λ e. ap (λ (b : ℕ). 1 - b) e ∙ sym (ap bitFor (agrees-iff w p 0 .1 (sym e))))
-      (λ e. ap (λ (b : ℕ). 1 - b) e ∙ sym (ap bitFor (not-true-false (agrees w p 0) (λ t. absurd (omega (arith, agrees-iff w p 0 .0 t))))))
-      (bit-or-bit (bitAt (w .bytes) p) (bit-lt (w .bytes) p))
-
   -- bits of the pattern that agree with c, and after the pattern ones
   enters-padded : (c q v pad : ℕ) → v < 2 ^ 8 → Padding (w .count) q pad
       → ((j : ℕ) → j < 8 → q + j < w .count → bitOf 8 v j ≡ bitFor (agrees w (q + j) c)) → Enters w c q (bitOr v pad)
@@ -113,13 +98,13 @@ module _ (w : Pattern) where
 
     pub enters-one : Enters w 1 q (bitOr (getD (w .bytes) k 0) pad)
     unfolding b
-    enters-one = enters-padded 1 q b pad small p (λ j l u. bits j l ∙ agrees-one (q + j))
+    enters-one = enters-padded 1 q b pad small p (λ j l u. bits j l ∙ agrees-one w (q + j))
 
     pub enters-zero : Enters w 0 q (bitOr (255 - getD (w .bytes) k 0) pad)
     unfolding b
     enters-zero =
         enters-padded 0 q (255 - b) pad (omega arith) p
-        (λ j l u. weight-not 8 b (7 - j) small (omega arith) ∙ ap (λ (y : ℕ). 1 - y) (bits j l) ∙ agrees-zero (q + j))
+        (λ j l u. weight-not 8 b (7 - j) small (omega arith) ∙ ap (λ (y : ℕ). 1 - y) (bits j l) ∙ agrees-zero w (q + j))
 
   -- after the pattern all are ones
   pub enters-past : (c q : ℕ) → w .count ≤ q → Enters w c q 255

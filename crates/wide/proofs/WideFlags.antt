@@ -13,7 +13,7 @@ use lib.ListN.{length, set}
 use lib.Pow.{pow-pos, shr-lt}
 use borrow.Author.Tests.{lt-ltb, le-ltb}
 use Rattle.bits.specs.Packed.{Packed, weight}
-use Rattle.bits.proofs.Weight.{weight-out, weight-shr, weight-mod, same-weights}
+use Rattle.bits.proofs.Weight.{weight-out, weight-shr, weight-mod, weight-zero, same-weights}
 use Rattle.rules.specs.declared.Method.the-variants.{Wide}
 use Rattle.rules.specs.Ranges.{keep}
 use Rattle.rules.specs.Pattern.{Pattern}
@@ -27,7 +27,7 @@ use Rattle.rules.proofs.Ranges.{and-both, not-true-false, among-same}
 use Rattle.rules.proofs.Occurrence.{occurs-inside, none-from-places, occurrences-none, occurrences-append, occurrences-one, occurrences-further, occurrences-to}
 use Rattle.rules.proofs.Wide.{stands-matches, flagged-occurs}
 use Rattle.matcher.proofs.Writing.{writing-none, writing-more, stepped-whole, stepped-full}
-use Rattle.wide.proofs.WideTables.{bitFor, weight-zero, trailing-below, trailing-lt}
+use Rattle.wide.proofs.WideTables.{bitFor, trailing-below, trailing-lt}
 use Rattle.wide.proofs.WideScan.{stands-after}
 
 -- the text's bit count plays no part in a comparison

@@ -14,6 +14,7 @@ use lib.ListN.{getD}
 use borrow.Author.Tests.{le-leb, lt-leb, lt-ltb, ltb-true, eqb-true, eqb-false}
 use Rattle.bits.specs.Packed.{Packed, bitAt, weight}
 use Rattle.bits.proofs.Run.{bit-lt}
+use Rattle.bits.proofs.Weight.{bit-or-bit}
 use Rattle.rules.specs.Ranges.{greatest}
 use Rattle.rules.specs.Pattern.{Pattern, agrees}
 use Rattle.rules.specs.Occurrence.{places}
@@ -23,7 +24,7 @@ use Rattle.matcher.specs.Tables.{WideTables}
 use Rattle.matcher.specs.Progress.{textOf}
 use Rattle.wide.specs.Flags.{Move, Marked}
 use Rattle.rules.proofs.Ranges.{and-left, and-right, Greatest, IsGreatest, greatest-is}
-use Rattle.wide.proofs.WideTables.{bitFor, bit-or-bit, bit-lit, bit-unlit, trailing-below, trailing-at, passes-in}
+use Rattle.wide.proofs.WideTables.{bitFor, bit-lit, bit-unlit, trailing-below, trailing-at, passes-in}
 
 -- there is one greatest number, and it is the one that is found
 greatest-some : (f : ℕ → Bool) (k j : ℕ) → Greatest f k j → greatest f k ≡ some j

@@ -15,7 +15,7 @@ use lib.Dec.{leb, ltb, eqb}
 use lib.ListN.{getD}
 use borrow.Author.Tests.{leb-true, le-leb, ltb-true, lt-ltb, le-ltb, eqb-true, eq-eqb}
 use Rattle.bits.specs.Packed.{Packed, bitAt, bitsAt, bitOf, weight}
-use Rattle.bits.proofs.Weight.{weight-lt, weight-out, weight-and, weight-shr}
+use Rattle.bits.proofs.Weight.{bit-or-bit, weight-lt, weight-out, weight-ones, weight-and, weight-shr}
 use Rattle.bits.proofs.Run.{bit-of-bits, bit-lt}
 use Rattle.rules.specs.Ranges.{implies}
 use Rattle.rules.specs.Pattern.{Pattern}
@@ -26,7 +26,7 @@ use Rattle.matcher.specs.Progress.{textOf}
 use Rattle.wide.specs.Flags.{StartsByte, within, second, applied, rounds, Applies, standsAfter, Scanned}
 use Rattle.rules.proofs.Ranges.{and-left, and-right, and-both, to-implies, implies-to, not-true-false, every-at, to-every}
 use Rattle.rules.proofs.Wide.{stands-at}
-use Rattle.wide.proofs.WideTables.{bitFor, bit-lit, bit-or-bit, weight-ones, passes-to}
+use Rattle.wide.proofs.WideTables.{bitFor, bit-lit, passes-to}
 
 -- every flag stands
 abbrev pub all-flags : ℕ

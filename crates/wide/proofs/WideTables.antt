@@ -6,16 +6,16 @@ use mathlib.Core.Logic.{_⊎_, inl, inr}
 use mathlib.Core.Bool.{Bool, true, false, _&&_, cond}
 use mathlib.Core.List.{List}
 use Prim.Native.Nat.{ℕ, zero, suc, _+_, _-_, _*_, _/_, _%_, _^_, _≤_, _<_}
-use native.Mathlib.Nat.{zero-div, not-suc-le-zero, le-of-suc-le-suc}
+use native.Mathlib.Nat.{not-suc-le-zero, le-of-suc-le-suc}
 use native.Mathlib.Decide.{decLe}
 use native.Mathlib.Omega.{arith}
 use lib.Dec.{leb, ltb}
 use lib.Count.{trailingZeros, under}
 use lib.ListN.{length, getD, drop, List·getD-eq-default}
-use lib.Pow.{pow-pos, high, ones-lt, ones-split}
+use lib.Pow.{pow-pos}
 use borrow.Author.Tests.{ltb-true, lt-ltb, leb-true, le-leb}
 use Rattle.bits.specs.Packed.{weight}
-use Rattle.bits.proofs.Weight.{weight-shr, same-weights}
+use Rattle.bits.proofs.Weight.{weight-shr, weight-zero, weight-ones, same-weights}
 use Rattle.rules.specs.Pattern.{Pattern, agrees}
 use Rattle.matcher.specs.Tables.{passes, WideTables}
 use Rattle.rules.proofs.Ranges.{and-left, and-right, to-implies, same-test}
@@ -32,32 +32,6 @@ bit-lit false e = absurd (omega arith)
 pub bit-unlit : (b : Bool) → bitFor b ≡ 0 → b ≡ false
 bit-unlit true e = absurd (omega arith)
 bit-unlit false e = refl
-
-pub bit-or-bit : (c : ℕ) → c < 2 → (c ≡ 0) ⊎ (c ≡ 1)
-bit-or-bit zero l = inl refl
-bit-or-bit (suc c) l = inr (omega arith)
-
--- Bits of a number
-
-pub weight-zero : (i : ℕ) → weight 0 i ≡ 0
-weight-zero i = ap (λ (y : ℕ). y % 2) (zero-div (2 ^ i))
-
-odd-ones : (j : ℕ) → 0 < j → (2 ^ j - 1) % 2 ≡ 1
-odd-ones zero h = absurd (omega arith)
-odd-ones (suc j) h = ap (λ (y : ℕ). y % 2) (ap (λ (n : ℕ). 2 ^ n - 1) (omega arith) ∙ ones-split j 1) ∙ last (2 ^ j - 1)
-  where
-    last : (y : ℕ) → (y * 2 + 1) % 2 ≡ 1
-    last y = omega arith
-
--- all of k bits are set
-pub weight-ones : (k i : ℕ) → i < k → weight (2 ^ k - 1) i ≡ 1
-weight-ones k i h =
-    ap (λ (y : ℕ). y / 2 ^ i % 2) (ap (λ (n : ℕ). 2 ^ n - 1) apart ∙ ones-split (k - i) i)
-    ∙ ap (λ (y : ℕ). y % 2) (high (2 ^ (k - i) - 1) i (ones-lt i))
-    ∙ odd-ones (k - i) (omega arith)
-  where
-    apart : k ≡ (k - i) + i
-    apart = omega arith
 
 -- The lowest bit that is set
 

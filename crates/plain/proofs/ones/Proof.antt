@@ -2,7 +2,8 @@
 -- Assumes nothing.
 use Prim.Native.Nat.{_*_}
 use native.Mathlib.Omega.{arith}
-use Rattle.plain.proofs.Shifts.{ones-none, ones-all, ones-some}
+use Rattle.bits.proofs.Weight.{ones-shl}
+use Rattle.plain.proofs.Shifts.{ones-none, ones-all}
 use borrow.Author.Needs.{needs}
 use Rattle.plain.proofs.ones.Statement.{statement}
 use Rattle.plain.proofs.ones.Tie as tie
@@ -38,7 +39,7 @@ shl-result : tie.Need-shl-result
 shl-result c = search needs
 
 returns-3 : tie.Need-returns-3
-returns-3 c = let a = c .before .before .args in ones-some (64 * a .k) (a .m) (omega arith) (omega arith)
+returns-3 c = let a = c .before .before .args in ones-shl (64 * a .k) (a .m) (omega arith) (omega arith)
 
 pub ones-spec : {M : Type 1} → statement M
 ones-spec =
