@@ -20,7 +20,7 @@ static const char *const pattern1 = "0100110100";
 static const char *const text2 = "110010110010110010110010110010110";
 static const char *const pattern2 = "110010110010110010110";
 
-static const char *const methods[] = {"plain", "hash", "skip", "wide"};
+static const char *const methods[] = {"plain", "hash", "skip", "wide", "tail"};
 static const char *const stops[] = {"done", "full", "spent"};
 
 /* Tables of a call; what they held before does not matter. */
@@ -63,7 +63,7 @@ int main(void)
     /* Every method on the first paper, with cells for all occurrences. */
     n = pack(text1, text);
     m = pack(pattern1, pattern);
-    for (method = MITONGORY_PLAIN; method <= MITONGORY_WIDE; method++) {
+    for (method = MITONGORY_PLAIN; method <= MITONGORY_TAIL; method++) {
         result = mitongory_search(text, sizeof text, n, pattern, sizeof pattern, m, method, 0, UINT32_MAX, list, CELLS,
                                   scratch, MITONGORY_SCRATCH_CELLS, answer, MITONGORY_ANSWER_CELLS);
         if (result != MITONGORY_OK) {

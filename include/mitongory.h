@@ -1,6 +1,6 @@
 /*
- * Mitongory: exact search for a pattern of bits in a text of packed bits, by four methods, and a file format for lists of
- * positions.
+ * Mitongory: exact search for a pattern of bits in a text of packed bits, by five methods, and a file format for lists
+ * of positions.
  *
  * These are the calls of the static library libmitongory.a for x86-64 Linux, which needs the C library and nothing else.
  * `make lib` builds it and `make install` installs it. A program is then built by
@@ -74,21 +74,21 @@ extern "C" {
 
 /* The version of this header. */
 #define MITONGORY_VERSION_MAJOR 0
-#define MITONGORY_VERSION_MINOR 2
+#define MITONGORY_VERSION_MINOR 3
 #define MITONGORY_VERSION_PATCH 0
 #define MITONGORY_VERSION_NUMBER \
     (MITONGORY_VERSION_MAJOR * 10000 + MITONGORY_VERSION_MINOR * 100 + MITONGORY_VERSION_PATCH)
-#define MITONGORY_VERSION "0.2.0"
+#define MITONGORY_VERSION "0.3.0"
 
 /*
  * The version of the library, as a number. The name holds the version of the interface, so that a program that was
  * compiled for one interface links with no other.
  */
-uint32_t mitongory_version_0_2(void);
+uint32_t mitongory_version_0_3(void);
 
 static inline uint32_t mitongory_version(void)
 {
-    return mitongory_version_0_2();
+    return mitongory_version_0_3();
 }
 
 #ifdef __GNUC__
@@ -96,7 +96,7 @@ static inline uint32_t mitongory_version(void)
  * Every program refers to the function, also one that never asks for the version. (A linker that is told to drop unused
  * data, by --gc-sections, drops this reference too.)
  */
-static uint32_t (*const mitongory_version_needed)(void) __attribute__((used)) = mitongory_version_0_2;
+static uint32_t (*const mitongory_version_needed)(void) __attribute__((used)) = mitongory_version_0_3;
 #endif
 
 /* The cells that a search needs in `scratch`, and in `answer`. The other calls need one answer cell. */
@@ -110,7 +110,7 @@ enum mitongory_result {
     MITONGORY_TEXT_BYTES_MISSING = 2,    /* fewer text bytes than n bits take */
     MITONGORY_PATTERN_LENGTH = 3,        /* m is 0 or above 2048 */
     MITONGORY_PATTERN_BYTES_MISSING = 4, /* fewer pattern bytes than m bits take */
-    MITONGORY_PATTERN_TOO_SHORT = 5,     /* m below 8 for hash and H, below 15 for skip */
+    MITONGORY_PATTERN_UNFIT = 5,         /* m below 8 for hash and H, below 15 for skip, above 64 for tail */
     MITONGORY_BEYOND_END = 6,            /* mark above the number of places; place + 8 above n */
     MITONGORY_SCRATCH_TOO_SHORT = 7,     /* fewer than MITONGORY_SCRATCH_CELLS cells */
     MITONGORY_LIST_NOT_RISING = 8,       /* positions not strictly rising, or one is 2^30 or more */
@@ -133,7 +133,9 @@ static inline const char *mitongory_result_text(uint32_t result)
     case MITONGORY_TEXT_BYTES_MISSING: return "The text has fewer bytes than its bits take.";
     case MITONGORY_PATTERN_LENGTH: return "The pattern has no bits, or more than 2048.";
     case MITONGORY_PATTERN_BYTES_MISSING: return "The pattern has fewer bytes than its bits take.";
-    case MITONGORY_PATTERN_TOO_SHORT: return "The pattern is too short: hash and H need 8 bits, skip needs 15.";
+    case MITONGORY_PATTERN_UNFIT:
+        return "The pattern's length does not fit the method: hash and H need 8 bits or more, skip 15 or more, "
+               "tail 64 or fewer.";
     case MITONGORY_BEYOND_END: return "The mark is above the number of places, or there are fewer than eight bits from the place on.";
     case MITONGORY_SCRATCH_TOO_SHORT: return "The scratch has fewer than 4224 cells.";
     case MITONGORY_LIST_NOT_RISING: return "The positions do not rise strictly, or one is 2^30 or more.";
@@ -143,18 +145,19 @@ static inline const char *mitongory_result_text(uint32_t result)
     case MITONGORY_NUMBER_TOO_LARGE: return "A number of the file is above 2^30, or a position is 2^30 or more.";
     case MITONGORY_BYTES_LEFT_OVER: return "Bytes are left over after the list.";
     case MITONGORY_CELLS_MISSING: return "There are fewer cells than the file's count.";
-    case MITONGORY_UNKNOWN_METHOD: return "The method is none of the four.";
+    case MITONGORY_UNKNOWN_METHOD: return "The method is none of the five.";
     case MITONGORY_ANSWER_CELLS_MISSING: return "There are fewer answer cells than the call needs.";
     default: return "No call returns this number.";
     }
 }
 
-/* The four methods of a search. They find the same places; their steps differ. */
+/* The five methods of a search. They find the same places; their steps differ. */
 enum mitongory_method {
     MITONGORY_PLAIN = 0,
     MITONGORY_HASH = 1, /* for patterns of 8 bits or more */
     MITONGORY_SKIP = 2, /* for patterns of 15 bits or more */
-    MITONGORY_WIDE = 3
+    MITONGORY_WIDE = 3,
+    MITONGORY_TAIL = 4 /* for patterns of 64 bits or fewer */
 };
 
 /* The answer cells of an accepted search. */

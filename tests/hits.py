@@ -1,6 +1,6 @@
 #!/usr/bin/env python3
 """Runs the program `hits` on the inputs of tests/hits and on generated ones, good and malformed, and compares what it
-writes, byte for byte, with a naive implementation of document 01's rules; and where nothing can be written it holds the
+writes, byte for byte, with a naive implementation of the written rules; and where nothing can be written it holds the
 program to a line on standard error. Prints one line with the number of checks, or the first differences and exits with 1.
 
 usage: hits.py [PROGRAM]"""
@@ -20,7 +20,7 @@ BUDGET = 2**32 - 1
 SECONDS = 20
 
 
-# ---- the four methods by their written rules, over strings of the characters 0 and 1
+# ---- the five methods by their written rules (documents 01 and 02), over strings of the characters 0 and 1
 
 
 def places(w, t):
@@ -81,11 +81,25 @@ def wide(w, t, s):
     return found, s + ws - k if k >= 0 else s + ws + 1
 
 
-METHODS = [("plain", plain, 1), ("hash", hash_step, 8), ("skip", skip, 15), ("wide", wide, 1)]
+def tail(w, t, s):
+    """r is the greatest length below m such that the pattern's first r bits equal the window's last r bits."""
+    m = len(w)
+    r = max(r for r in range(m) if w[:r] == t[s + m - r : s + m])
+    return ([s] if stands(w, t, s) else []), s + m - r
 
 
-def line(name, step, shortest, w, t):
-    if len(w) < shortest:
+# Each method with the fewest and the most bits of a pattern that it takes.
+METHODS = [
+    ("plain", plain, 1, 2048),
+    ("hash", hash_step, 8, 2048),
+    ("skip", skip, 15, 2048),
+    ("wide", wide, 1, 2048),
+    ("tail", tail, 1, 64),
+]
+
+
+def line(name, step, fewest, most, w, t):
+    if not fewest <= len(w) <= most:
         return name + " refused 5"
     end, mark, steps, hits = places(w, t), 0, 0, []
     while mark < end and steps < BUDGET:
@@ -182,6 +196,11 @@ def named():
     yield "a hit that would use padding", pair("1000", "0001")
     yield "padding up to the byte", pair("10000000", "0000000100000")
     yield "R2 and V2", pair("110010110010110010110", "110010" * 5 + "110")
+    yield "a beginning of the pattern that does not end it", pair("0011", "10010011")
+    for m in [1, 2, 63, 64, 65]:
+        yield "pattern of %d ones" % m, pair("1" * m, "1" * 200)
+        yield "pattern of %d, zeros and a 1" % m, pair("0" * (m - 1) + "1", "0" * 150 + "1" + "0" * 150)
+        yield "pattern of %d, a 1 in its middle" % m, pair("0" * (m // 2) + "1" + "0" * (m - m // 2 - 1), "0" * 300)
 
 
 def drawn(rng):

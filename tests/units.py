@@ -22,7 +22,9 @@ DEFINED = "bits/src/lib.rt"
 LEFT_OUT = ["draws", "trials", "list_trials"]
 
 # Lines of code elsewhere that are no conversion between the two units, each with its reason: (file, line, reason).
-EXCEPTIONS = []
+EXCEPTIONS = [
+    ("tail/src/lib.rt", "& ((y << 3) ^ k.b2)", "the window moved up for the third of eight bits of the pattern, by 1 to 8 bits in turn"),
+]
 
 
 # ---- reading a source

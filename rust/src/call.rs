@@ -5,7 +5,7 @@ use crate::refusal::Refusal;
 pub(crate) fn check(number: u32) -> Result<(), Refusal> {
     match number {
         0 => Ok(()),
-        // The crate hands over the four methods and enough answer cells only.
+        // The crate hands over the five methods and enough answer cells only.
         _ => Err(Refusal::from_number(number).expect("the library refuses with a number of the rules")),
     }
 }

@@ -7,7 +7,7 @@
 // The calls' parameters are fixed by the library.
 #![allow(clippy::too_many_arguments)]
 
-/// The method's number is above 3.
+/// The method's number is above 4.
 pub const UNKNOWN_METHOD: u32 = 100;
 /// The answer has fewer cells than the call fills.
 pub const ANSWER_CELLS_MISSING: u32 = 101;
@@ -18,7 +18,7 @@ pub const ANSWER_CELLS_MISSING: u32 = 101;
 // tests/library/boundary.rs tests them.
 mod raw {
     extern "C" {
-        pub(super) fn mitongory_version_0_2() -> u32;
+        pub(super) fn mitongory_version_0_3() -> u32;
         pub(super) fn mitongory_search(
             text: *const u8,
             text_len: usize,
@@ -79,17 +79,17 @@ mod raw {
 
 // Kept in every program, used or not, so that the linker refuses an archive of another version.
 #[used]
-static VERSION: unsafe extern "C" fn() -> u32 = raw::mitongory_version_0_2;
+static VERSION: unsafe extern "C" fn() -> u32 = raw::mitongory_version_0_3;
 
 /// The archive's version, as major * 10,000 + minor * 100 + patch.
 #[must_use]
 pub fn version() -> u32 {
     // SAFETY: the function takes nothing and returns a number.
-    unsafe { raw::mitongory_version_0_2() }
+    unsafe { raw::mitongory_version_0_3() }
 }
 
-/// A search call. Method 0 is plain, 1 hash, 2 skip, 3 wide; the answer's four cells are steps, occurrences, mark and
-/// how the call stopped (0 done, 1 full, 2 spent).
+/// A search call. Method 0 is plain, 1 hash, 2 skip, 3 wide, 4 tail; the answer's four cells are steps, occurrences,
+/// mark and how the call stopped (0 done, 1 full, 2 spent).
 pub fn search(
     text: &[u8],
     n: u64,

@@ -2,7 +2,7 @@
 //!
 //! The crate lists every place where a *pattern* of 1 to 2,048 bits occurs in a *text* of up to 2^30 bits. A place is a
 //! bit number: a pattern may occur from any bit on, not only where a byte begins, and occurrences may overlap. There are
-//! four methods of searching, which find the same occurrences, and a file format for lists of positions.
+//! five methods of searching, which find the same occurrences, and a file format for lists of positions.
 //!
 //! The work is done by a library in which every function is proved to meet its contract. It is linked as a static
 //! archive. This crate gives its calls Rust types and adds no rule of its own. It has no dependencies.
@@ -102,7 +102,7 @@
 //!
 //! let (text, pattern) = (Text::new(&[0xff], 8)?, Pattern::new(&[0xff], 7)?);
 //! let refusal = Occurrences::new(text, pattern, Method::Hash).unwrap_err();
-//! assert_eq!((refusal, refusal.number()), (Refusal::PatternTooShort, 5));
+//! assert_eq!((refusal, refusal.number()), (Refusal::PatternUnfit, 5));
 //! # Ok(())
 //! # }
 //! ```

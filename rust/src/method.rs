@@ -1,4 +1,4 @@
-//! The four methods of searching. They find the same occurrences and differ in their steps.
+//! The five methods of searching. They find the same occurrences and differ in their steps.
 use std::error::Error;
 use std::fmt;
 use std::str::FromStr;
@@ -23,6 +23,33 @@ pub enum Method {
     Skip = 2,
     /// A step decides 64 places at once, and often passes over more. For every pattern.
     Wide = 3,
+    /// A step compares the pattern at one place. It also looks for the longest beginning of the pattern, shorter than
+    /// all of it, with which the window ends (the bits that were compared), and moves on to where that begins. This is
+    /// the rule of BNDM. For patterns of 64 bits or fewer.
+    ///
+    /// In the example the window at 0 is `1001`. It ends in `001`, with which the pattern begins, so the next mark is
+    /// 1. The window there, `0010`, ends in `0`, so the next mark is 4, and the pattern stands there.
+    ///
+    /// ```
+    /// use mitongory::{search, Bits, Mark, Method, Pattern, Refusal, Scratch};
+    ///
+    /// # fn main() -> Result<(), Box<dyn std::error::Error>> {
+    /// let (long, short): (Bits, Bits) = ("10010011".parse()?, "0011".parse()?);
+    /// let (text, pattern) = (long.text()?, short.pattern()?);
+    /// let (mut list, mut scratch) = ([0; 8], Scratch::new());
+    /// for (mark, occurrences, next) in [(0, 0, 1), (1, 0, 4), (4, 1, 5)] {
+    ///     let answer = search(text, pattern, Method::Tail, Mark::at(mark), 1, &mut list, &mut scratch)?;
+    ///     assert_eq!((answer.occurrences, answer.mark), (occurrences, Mark::at(next)));
+    /// }
+    /// assert_eq!(list[0], 4);
+    ///
+    /// let mut tail = |pattern| search(text, pattern, Method::Tail, Mark::START, 1, &mut list, &mut scratch);
+    /// assert!(tail(Pattern::new(&[0; 9], 64)?).is_ok());
+    /// assert_eq!(tail(Pattern::new(&[0; 9], 65)?), Err(Refusal::PatternUnfit));
+    /// # Ok(())
+    /// # }
+    /// ```
+    Tail = 4,
 }
 
 impl Method {
@@ -32,9 +59,9 @@ impl Method {
     /// use mitongory::Method;
     ///
     /// let names: Vec<&str> = Method::ALL.iter().map(|method| method.name()).collect();
-    /// assert_eq!(names, ["plain", "hash", "skip", "wide"]);
+    /// assert_eq!(names, ["plain", "hash", "skip", "wide", "tail"]);
     /// ```
-    pub const ALL: &'static [Method] = &[Method::Plain, Method::Hash, Method::Skip, Method::Wide];
+    pub const ALL: &'static [Method] = &[Method::Plain, Method::Hash, Method::Skip, Method::Wide, Method::Tail];
 
     /// The method's name.
     ///
@@ -48,6 +75,7 @@ impl Method {
             Method::Hash => "hash",
             Method::Skip => "skip",
             Method::Wide => "wide",
+            Method::Tail => "tail",
         }
     }
 
@@ -75,6 +103,7 @@ impl fmt::Display for Method {
 ///
 /// assert_eq!("hash".parse(), Ok(Method::Hash));
 /// assert_eq!("Hash".parse::<Method>(), Err(UnknownMethod));
+/// assert_eq!(UnknownMethod.to_string(), "a method is one of plain, hash, skip, wide, tail");
 /// ```
 impl FromStr for Method {
     type Err = UnknownMethod;
@@ -90,7 +119,7 @@ pub struct UnknownMethod;
 
 impl fmt::Display for UnknownMethod {
     fn fmt(&self, f: &mut fmt::Formatter<'_>) -> fmt::Result {
-        f.write_str("a method is one of plain, hash, skip, wide")
+        f.write_str("a method is one of plain, hash, skip, wide, tail")
     }
 }
 

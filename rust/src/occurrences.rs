@@ -73,14 +73,14 @@ impl<'a> Occurrences<'a> {
     /// let text = Text::from_bytes(&[0x0f, 0x0f])?;
     /// let pattern = Pattern::new(&[0xf0], 4)?;
     /// assert!(Occurrences::new(text, pattern, Method::Plain)?.eq([4, 12]));
-    /// assert_eq!(Occurrences::new(text, pattern, Method::Hash).unwrap_err(), Refusal::PatternTooShort);
+    /// assert_eq!(Occurrences::new(text, pattern, Method::Hash).unwrap_err(), Refusal::PatternUnfit);
     /// # Ok(())
     /// # }
     /// ```
     ///
     /// # Errors
     ///
-    /// [`Refusal::PatternTooShort`] for a pattern that the method does not take.
+    /// [`Refusal::PatternUnfit`] for a pattern that the method does not take.
     pub fn new(text: Text<'a>, pattern: Pattern<'a>, method: Method) -> Result<Occurrences<'a>, Refusal> {
         Occurrences::resume(text, pattern, method, Mark::START)
     }
@@ -102,7 +102,7 @@ impl<'a> Occurrences<'a> {
     ///
     /// # Errors
     ///
-    /// [`Refusal::PatternTooShort`] for a pattern that the method does not take, [`Refusal::BeyondEnd`] for a mark above
+    /// [`Refusal::PatternUnfit`] for a pattern that the method does not take, [`Refusal::BeyondEnd`] for a mark above
     /// the number of places.
     pub fn resume(
         text: Text<'a>,

@@ -37,7 +37,7 @@ impl<'a> Pattern<'a> {
     pub fn new(bytes: &'a [u8], bit_count: u64) -> Result<Pattern<'a>, Refusal> {
         // Of the call for H, refusals 3 and 4 speak of every pattern, and 5 of one too short for H.
         let said = call::check(ffi::hash_value(bytes, bit_count, 0, &mut [0]));
-        Packed::judged(bytes, bit_count, said, Refusal::PatternTooShort).map(Pattern)
+        Packed::judged(bytes, bit_count, said, Refusal::PatternUnfit).map(Pattern)
     }
 
     /// All bits of `bytes`, eight for each.
@@ -68,7 +68,7 @@ impl<'a> Pattern<'a> {
     ///
     /// # Errors
     ///
-    /// [`Refusal::PatternTooShort`] for a pattern below 8 bits.
+    /// [`Refusal::PatternUnfit`] for a pattern below 8 bits.
     pub fn hash_value(&self, value: u8) -> Result<u32, Refusal> {
         call::answer(|cell| ffi::hash_value(self.bytes(), self.bit_count(), value, cell))
     }

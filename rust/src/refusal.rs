@@ -26,8 +26,8 @@ pub enum Refusal {
     PatternLength = 3,
     /// The pattern has fewer bytes than its bits take.
     PatternBytesMissing = 4,
-    /// The pattern is below 8 bits for hash and H, or below 15 for skip.
-    PatternTooShort = 5,
+    /// The pattern is below 8 bits for hash and H, below 15 for skip, or above 64 for tail.
+    PatternUnfit = 5,
     /// The mark is above the number of places; for eight bits, there are fewer from the place on.
     BeyondEnd = 6,
     /// The scratch has fewer than 4,224 cells. A [`Scratch`](crate::Scratch) never has.
@@ -61,7 +61,7 @@ impl Refusal {
         Refusal::TextBytesMissing,
         Refusal::PatternLength,
         Refusal::PatternBytesMissing,
-        Refusal::PatternTooShort,
+        Refusal::PatternUnfit,
         Refusal::BeyondEnd,
         Refusal::ScratchTooShort,
         Refusal::ListNotRising,
@@ -104,7 +104,10 @@ impl fmt::Display for Refusal {
             Refusal::TextBytesMissing => "the text has fewer bytes than its bits take",
             Refusal::PatternLength => "the pattern has no bit or more than 2,048 bits",
             Refusal::PatternBytesMissing => "the pattern has fewer bytes than its bits take",
-            Refusal::PatternTooShort => "the pattern is too short: hash takes 8 bits or more, skip 15 or more",
+            Refusal::PatternUnfit => {
+                "the pattern's length does not fit the method: hash and H take 8 bits or more, skip 15 or more, \
+                 tail 64 or fewer"
+            }
             Refusal::BeyondEnd => {
                 "the mark is above the number of places, or there are fewer than eight bits from the place on"
             }

@@ -136,7 +136,7 @@ impl fmt::Debug for Scratch {
 ///
 /// # Errors
 ///
-/// [`Refusal::PatternTooShort`] for a pattern that the method does not take, [`Refusal::BeyondEnd`] for a mark above the
+/// [`Refusal::PatternUnfit`] for a pattern that the method does not take, [`Refusal::BeyondEnd`] for a mark above the
 /// number of places, which is `n - m + 1` for `n` bits of text and `m` of pattern, or 0 for a pattern longer than the
 /// text.
 pub fn search(

@@ -6,7 +6,7 @@ use mathlib.Core.List.{List, [], _∷_, _++_}
 use lib.Dec.{eqb}
 use lib.ListN.{length, drop}
 use Rattle.rules.specs.declared.Method.{Method}
-use Rattle.rules.specs.declared.Method.the-variants.{Plain, Hash, Skip, Wide}
+use Rattle.rules.specs.declared.Method.the-variants.{Plain, Hash, Skip, Wide, Tail}
 use Rattle.rules.specs.Machine.{Ending, done, spent, full, Run}
 use Rattle.search.specs.Verdict.{Request, Verdict, refused, accepted, verdict, hashVerdict, scratchCells}
 use Rattle.capi.specs.Told.{unknownMethod, answerCellsMissing, Told, gives, refuses, unlessCells, Tells}
@@ -23,7 +23,8 @@ methodNamed k =
     cond (eqb k 0) (known Plain)
     (cond (eqb k 1) (known Hash)
     (cond (eqb k 2) (known Skip)
-    (cond (eqb k 3) (known Wide) unknown)))
+    (cond (eqb k 3) (known Wide)
+    (cond (eqb k 4) (known Tail) unknown))))
 
 abbrev pub stopNumber : Ending → ℕ
 stopNumber done = 0

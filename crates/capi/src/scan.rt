@@ -31,6 +31,7 @@ fn method_of(k: u32) -> Named
         1 => Named::Known(Method::Hash),
         2 => Named::Known(Method::Skip),
         3 => Named::Known(Method::Wide),
+        4 => Named::Known(Method::Tail),
         _ => Named::Unknown,
     }
 }

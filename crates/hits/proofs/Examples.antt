@@ -11,13 +11,14 @@ use Rattle.rules.specs.Plain.{fromBits, inRow, rowBit, maskBit, rowByte, rowMas
 use Rattle.rules.specs.Hash.{meets, hashOf, hashAgain, lastEight, hashFinds, hashNext}
 use Rattle.rules.specs.Skip.{shows, shownAt, skipFinds}
 use Rattle.rules.specs.Wide.{counts, stands, flagged, wideFinds, lastIndex, wideNext}
+use Rattle.rules.specs.Tail.{prefixEnds, tailLength, tailFinds, tailNext}
 use Rattle.rules.specs.Step.{finds, ahead, next}
 use Rattle.rules.specs.Machine.{stopped, cut, after, run}
 use Rattle.search.specs.Verdict.{rows, judge, machine, verdict}
 use Rattle.lines.specs.Input.{charOf, prepend, readLine, secondLine, firstLine, parse}
 use Rattle.lines.specs.Packing.{bitsFrom, bytesFrom, packed}
 use Rattle.lines.specs.Line.{digitsOf, decimalOf, numbers, acceptedLine, refusedLine}
-use Rattle.hits.specs.Printed.{badInput, asked, lineOf, searchLine, fourLines, printedOf, printed}
+use Rattle.hits.specs.Printed.{badInput, asked, lineOf, searchLine, fiveLines, printedOf, printed}
 
 -- an input of two lines
 abbrev two : List ℕ → List ℕ → List ℕ
@@ -31,18 +32,19 @@ V1 = 0 ∷ 1 ∷ 0 ∷ 0 ∷ 1 ∷ 1 ∷ 0 ∷ 1 ∷ 0 ∷ 0 ∷ []
 abbrev R1 : List ℕ
 R1 = 0 ∷ 1 ∷ 1 ∷ 0 ∷ 0 ∷ 1 ∷ 0 ∷ 0 ∷ 1 ∷ 0 ∷ 0 ∷ 0 ∷ 1 ∷ 0 ∷ 0 ∷ 1 ∷ 1 ∷ 0 ∷ 1 ∷ 0 ∷ 0 ∷ 1 ∷ 0 ∷ 1 ∷ 0 ∷ 0 ∷ 0 ∷ 1 ∷ 0 ∷ 1 ∷ 0 ∷ 0 ∷ 1 ∷ 0 ∷ 0 ∷ 1 ∷ []
 
--- "plain 27 1 11", "hash 5 1 11", "skip refused 5", "wide 1 1 11"
-abbrev fourPrinted : List ℕ
-fourPrinted =
+-- "plain 27 1 11", "hash 5 1 11", "skip refused 5", "wide 1 1 11"; and the fifth line, tail 5 1 11
+abbrev fivePrinted : List ℕ
+fivePrinted =
     112 ∷ 108 ∷ 97 ∷ 105 ∷ 110 ∷ 32 ∷ 50 ∷ 55 ∷ 32 ∷ 49 ∷ 32 ∷ 49 ∷ 49 ∷ 10
     ∷ 104 ∷ 97 ∷ 115 ∷ 104 ∷ 32 ∷ 53 ∷ 32 ∷ 49 ∷ 32 ∷ 49 ∷ 49 ∷ 10
     ∷ 115 ∷ 107 ∷ 105 ∷ 112 ∷ 32 ∷ 114 ∷ 101 ∷ 102 ∷ 117 ∷ 115 ∷ 101 ∷ 100 ∷ 32 ∷ 53 ∷ 10
     ∷ 119 ∷ 105 ∷ 100 ∷ 101 ∷ 32 ∷ 49 ∷ 32 ∷ 49 ∷ 32 ∷ 49 ∷ 49 ∷ 10
+    ∷ 116 ∷ 97 ∷ 105 ∷ 108 ∷ 32 ∷ 53 ∷ 32 ∷ 49 ∷ 32 ∷ 49 ∷ 49 ∷ 10
     ∷ []
 
 -- "V1 then R1 gives, whole"
-paper : printed (two V1 R1) ≡ fourPrinted
-unfolding bitAt bitsAt every among least greatest agrees matches occurs occurrences fromBits inRow rowBit maskBit rowByte rowMask rowFits plainFinds meets hashOf hashAgain lastEight hashFinds hashNext shows shownAt skipFinds counts stands flagged wideFinds lastIndex wideNext finds ahead next stopped cut after run rows judge machine verdict prepend readLine secondLine firstLine parse bitsFrom bytesFrom packed digitsOf decimalOf numbers acceptedLine refusedLine asked lineOf searchLine fourLines printedOf printed
+paper : printed (two V1 R1) ≡ fivePrinted
+unfolding bitAt bitsAt every among least greatest agrees matches occurs occurrences fromBits inRow rowBit maskBit rowByte rowMask rowFits plainFinds meets hashOf hashAgain lastEight hashFinds hashNext shows shownAt skipFinds counts stands flagged wideFinds lastIndex wideNext prefixEnds tailLength tailFinds tailNext finds ahead next stopped cut after run rows judge machine verdict prepend readLine secondLine firstLine parse bitsFrom bytesFrom packed digitsOf decimalOf numbers acceptedLine refusedLine asked lineOf searchLine fiveLines printedOf printed
 paper = refl
 
 -- a second line that byte 10 does not end

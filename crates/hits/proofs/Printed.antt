@@ -1,4 +1,4 @@
--- What is printed: `bad input` just for input that is not good; else the four lines, where each way that takes the word
+-- What is printed: `bad input` just for input that is not good; else the five lines, where each way that takes the word
 -- lists all occurrences, and the others are refused with number 5.
 -- Assumes nothing.
 use Prim.Native.Nat.{ℕ, _+_, _-_, _^_, _≤_}
@@ -11,7 +11,7 @@ use lib.ListN.{length, getD, take, replicate, length-replicate}
 use borrow.Author.Tests.{lt-ltb, le-ltb, ne-eqb}
 use Rattle.bits.specs.Packed.{Packed, bytesFor}
 use Rattle.rules.specs.declared.Method.{Method}
-use Rattle.rules.specs.declared.Method.the-variants.{Plain, Hash, Skip, Wide}
+use Rattle.rules.specs.declared.Method.the-variants.{Plain, Hash, Skip, Wide, Tail}
 use Rattle.rules.specs.Pattern.{Pattern}
 use Rattle.rules.specs.Occurrence.{places, Occurs, occurrences}
 use Rattle.rules.specs.Step.{unfit}
@@ -25,7 +25,7 @@ use Rattle.lines.specs.Packing.{packed}
 use Rattle.lines.specs.Line.{acceptedLine, refusedLine}
 use Rattle.lines.proofs.Bits.{packed-length, packed-bit}
 use Rattle.lines.proofs.Input.{parsed-good, good-parsed, beginning}
-use Rattle.hits.specs.Printed.{badInput, textIn, patternIn, asked, lineOf, searchLine, fourLines, printedOf, printed}
+use Rattle.hits.specs.Printed.{badInput, textIn, patternIn, asked, lineOf, searchLine, fiveLines, printedOf, printed}
 use Rattle.hits.specs.Claims.{Stands, Listed, Prints}
 use Rattle.hits.specs.Report.{inputMost}
 
@@ -72,10 +72,10 @@ module _ (s w t : List ℕ) (g : Good s w t) (x : Method) where
   cells : scratchCells ≤ length (replicate {A = ℕ} scratchCells 0)
   cells = rw (length-replicate {A = ℕ} scratchCells 0) (omega arith)
 
-  -- "where the search refuses": only a word that is too short for the way
-  pub too-short : unfit x (length w) ≡ true → searchLine (textIn t) (patternIn w) x ≡ refusedLine x 5
+  -- "where the search refuses": only a word that the way does not take
+  pub unfit-line : unfit x (length w) ≡ true → searchLine (textIn t) (patternIn w) x ≡ refusedLine x 5
   unfolding searchLine lineOf verdict rows judge asked
-  too-short h =
+  unfit-line h =
       simp (le-ltb _ _ text-short, le-ltb _ _ text-whole, ne-eqb _ _ some, le-ltb _ _ (g .pattern-most), le-ltb _ _ pattern-whole, h)
 
   module _ (fit : unfit x (length w) ≡ false) where
@@ -140,30 +140,32 @@ module _ (s w t : List ℕ) (g : Good s w t) (x : Method) where
 
 -- ---- every input
 
-good-prints : (s w t : List ℕ) → Good s w t → printed s ≡ fourLines (textIn t) (patternIn w)
+good-prints : (s w t : List ℕ) → Good s w t → printed s ≡ fiveLines (textIn t) (patternIn w)
 unfolding printed printedOf
 good-prints s w t g = rw (good-parsed s w t g)
 
 pub prints : (s w t : List ℕ) → Good s w t → Prints s w t
 prints s w t g =
     record {
-      four = good-prints s w t g;
+      five = good-prints s w t g;
       plain = listed s w t g Plain refl;
       hash = λ h. listed s w t g Hash (le-ltb _ _ h);
-      hash-short = λ h. too-short s w t g Hash (lt-ltb _ _ h);
+      hash-short = λ h. unfit-line s w t g Hash (lt-ltb _ _ h);
       skip = λ h. listed s w t g Skip (le-ltb _ _ h);
-      skip-short = λ h. too-short s w t g Skip (lt-ltb _ _ h);
+      skip-short = λ h. unfit-line s w t g Skip (lt-ltb _ _ h);
       wide = listed s w t g Wide refl;
+      tail = λ h. listed s w t g Tail (le-ltb _ _ h);
+      tail-long = λ h. unfit-line s w t g Tail (lt-ltb _ _ h);
     }
 
--- four lines start with the byte of `p`, and `bad input` with that of `b`
+-- the lines start with the byte of `p`, and `bad input` with that of `b`
 line-start : (v : Verdict Run) (rest : List ℕ) → getD (lineOf Plain v ++ rest) 0 0 ≡ 112
 unfolding lineOf acceptedLine refusedLine
 line-start (accepted r) rest = refl
 line-start (refused k) rest = refl
 
-lines-start : (t : Packed) (w : Pattern) → getD (fourLines t w) 0 0 ≡ 112
-unfolding fourLines searchLine
+lines-start : (t : Packed) (w : Pattern) → getD (fiveLines t w) 0 0 ≡ 112
+unfolding fiveLines searchLine
 lines-start t w = line-start (verdict (asked t w Plain)) _
 
 -- "Anything else prints the one line `bad input`", and no good input does

@@ -5,13 +5,13 @@ use mathlib.Core.Logic.{_↔_}
 use mathlib.Core.List.{List, List·Memᴰ}
 use lib.ListN.{length, getD}
 use Rattle.rules.specs.declared.Method.{Method}
-use Rattle.rules.specs.declared.Method.the-variants.{Plain, Hash, Skip, Wide}
+use Rattle.rules.specs.declared.Method.the-variants.{Plain, Hash, Skip, Wide, Tail}
 use Rattle.rules.specs.Ranges.{Rising}
 use Rattle.rules.specs.Occurrence.{places, occurrences}
 use Rattle.rules.specs.Machine.{Run, done}
 use Rattle.search.specs.Verdict.{machine}
 use Rattle.lines.specs.Line.{acceptedLine, refusedLine}
-use Rattle.hits.specs.Printed.{textIn, patternIn, asked, searchLine, fourLines, printed}
+use Rattle.hits.specs.Printed.{textIn, patternIn, asked, searchLine, fiveLines, printed}
 
 -- the bits w stand in the bits t at the place p
 pub record Stands (w t : List ℕ) (p : ℕ) : Type 0 where
@@ -33,15 +33,18 @@ abbrev pub AllListed : List ℕ → List ℕ → Method → Type 0
 AllListed w t x = Listed w t x (machine (asked (textIn t) (patternIn w) x))
 
 -- The line of a refused search: the number is 5.
-abbrev pub TooShort : List ℕ → List ℕ → Method → Type 0
-TooShort w t x = searchLine (textIn t) (patternIn w) x ≡ refusedLine x 5
+abbrev pub Unfit : List ℕ → List ℕ → Method → Type 0
+Unfit w t x = searchLine (textIn t) (patternIn w) x ≡ refusedLine x 5
 
--- What is printed for the lines w and t: the ways list all occurrences, but for patterns that are too short for hash and skip.
+-- What is printed for the lines w and t: the ways list all occurrences, but for patterns that are too short for hash and skip,
+-- or too long for tail.
 pub record Prints (s w t : List ℕ) : Type 0 where
-  pub four : printed s ≡ fourLines (textIn t) (patternIn w)
+  pub five : printed s ≡ fiveLines (textIn t) (patternIn w)
   pub plain : AllListed w t Plain
   pub hash : 8 ≤ length w → AllListed w t Hash
-  pub hash-short : length w < 8 → TooShort w t Hash
+  pub hash-short : length w < 8 → Unfit w t Hash
   pub skip : 15 ≤ length w → AllListed w t Skip
-  pub skip-short : length w < 15 → TooShort w t Skip
+  pub skip-short : length w < 15 → Unfit w t Skip
   pub wide : AllListed w t Wide
+  pub tail : length w ≤ 64 → AllListed w t Tail
+  pub tail-long : 64 < length w → Unfit w t Tail

@@ -4,7 +4,7 @@ use mathlib.Core.List.{List, [], _∷_, _++_}
 use lib.ListN.{length, replicate}
 use Rattle.bits.specs.Packed.{Packed}
 use Rattle.rules.specs.declared.Method.{Method}
-use Rattle.rules.specs.declared.Method.the-variants.{Plain, Hash, Skip, Wide}
+use Rattle.rules.specs.declared.Method.the-variants.{Plain, Hash, Skip, Wide, Tail}
 use Rattle.rules.specs.Pattern.{Pattern}
 use Rattle.rules.specs.Occurrence.{places}
 use Rattle.rules.specs.Machine.{Run}
@@ -48,14 +48,15 @@ lineOf x (refused number) = refusedLine x number
 unfoldable pub searchLine : Packed → Pattern → Method → List ℕ
 searchLine t w x = lineOf x (verdict (asked t w x))
 
--- "the ways come in the order shown below": plain, hash, skip, wide
-unfoldable pub fourLines : Packed → Pattern → List ℕ
-fourLines t w = searchLine t w Plain ++ (searchLine t w Hash ++ (searchLine t w Skip ++ searchLine t w Wide))
+-- "the ways come in the order shown below": plain, hash, skip, wide; and document 02: "`hits` prints it as a fifth line, `tail`"
+unfoldable pub fiveLines : Packed → Pattern → List ℕ
+fiveLines t w =
+    searchLine t w Plain ++ (searchLine t w Hash ++ (searchLine t w Skip ++ (searchLine t w Wide ++ searchLine t w Tail)))
 
 -- what is printed for an input that is bad, and for one that holds the pattern w and the text t
 unfoldable pub printedOf : Parsed → List ℕ
 printedOf bad = badInput
-printedOf (lines w t) = fourLines (textIn t) (patternIn w)
+printedOf (lines w t) = fiveLines (textIn t) (patternIn w)
 
 -- "Program `hits` reads two lines .. from standard input": what it prints for the bytes s
 unfoldable pub printed : List ℕ → List ℕ

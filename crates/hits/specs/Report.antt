@@ -8,7 +8,7 @@ use Rattle.search.specs.Verdict.{numberOfRefusal}
 abbrev pub inputMost : ℕ
 inputMost = 6147
 
--- how many places there are at most, how many bytes a line takes then (28 and eleven for each place), and four of them
+-- how many places there are at most, how many bytes a line takes then (28 and eleven for each place), and five of them
 abbrev pub placesMost : ℕ
 placesMost = 4096
 
@@ -16,7 +16,7 @@ abbrev pub lineMost : ℕ
 lineMost = 45084
 
 abbrev pub printedMost : ℕ
-printedMost = 180336
+printedMost = 225420
 
 -- the number of a refused call; an accepted one has none, which is 0 here
 abbrev pub numberIn : Outcome → ℕ

@@ -11,7 +11,7 @@ ghost use Prim.Native.Nat.{_+_, _-_, _≤_};
 ghost use lib.ListN.{length, take};
 ghost use Rattle.io.specs.Counts.{Counts};
 ghost use Rattle.lines.specs.Inner.{Puts, Sized, inputIn};
-ghost use Rattle.hits.specs.Printed.{searchLine, fourLines, printedOf, printed};
+ghost use Rattle.hits.specs.Printed.{searchLine, fiveLines, printedOf, printed};
 ghost use Rattle.hits.specs.Report.{numberIn, placesMost, lineMost, printedMost};
 
 // "budget 2^32 − 1"
@@ -56,16 +56,17 @@ fn search_line(
     line::accepted(out, at, method, answer.steps, answer.occurrences, &list)
 }
 
-// Stores the lines of the four methods.
-fn four_lines(text: &[u8], n: u64, pattern: &[u8], m: u64, out: &mut [u8]) -> usize
+// Stores the lines of the five methods.
+fn five_lines(text: &[u8], n: u64, pattern: &[u8], m: u64, out: &mut [u8]) -> usize
     requires { ⌜ (1 + n - m ≤ placesMost) × (printedMost ≤ length (now out)) ⌝ }
-    ensures is { λ r. ⌜ Puts (now (out .entry)) 0 (fourLines (record { bytes = now (text .entry); count = n }) (record { bytes = now (pattern .entry); count = m })) r (now (out .exit)) ⌝ }
+    ensures is { λ r. ⌜ Puts (now (out .entry)) 0 (fiveLines (record { bytes = now (text .entry); count = n }) (record { bytes = now (pattern .entry); count = m })) r (now (out .exit)) ⌝ }
     ensures short { λ r. ⌜ r ≤ printedMost ⌝ }
 {
     let a = search_line(text, n, pattern, m, Method::Plain, out, 0);
     let b = search_line(text, n, pattern, m, Method::Hash, out, a);
     let c = search_line(text, n, pattern, m, Method::Skip, out, b);
-    search_line(text, n, pattern, m, Method::Wide, out, c)
+    let d = search_line(text, n, pattern, m, Method::Wide, out, c);
+    search_line(text, n, pattern, m, Method::Tail, out, d)
 }
 
 // Packs a pattern of m characters and a text of n, which start and end the input, and stores their lines.
@@ -82,10 +83,10 @@ fn packed_lines(input: &[u8], m: usize, n: usize, out: &mut [u8]) -> usize
     let b = pack::pack(&input[start..end], &mut text_bytes);
     let pattern: &[u8] = &pattern_bytes[..a];
     let text: &[u8] = &text_bytes[..b];
-    four_lines(text, n as u64, pattern, m as u64, out)
+    five_lines(text, n as u64, pattern, m as u64, out)
 }
 
-// Stores what is printed for the input, the four lines or that it is bad, to the front of `out`, and gives how many bytes
+// Stores what is printed for the input, the five lines or that it is bad, to the front of `out`, and gives how many bytes
 // that is.
 pub(crate) fn report(input: &[u8], out: &mut [u8]) -> usize
     requires { ⌜ printedMost ≤ length (now out) ⌝ }

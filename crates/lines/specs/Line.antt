@@ -7,14 +7,15 @@ use mathlib.Core.List.{List, [], _∷_, _++_}
 use lib.Dec.{ltb}
 use lib.ListN.{length}
 use Rattle.rules.specs.declared.Method.{Method}
-use Rattle.rules.specs.declared.Method.the-variants.{Plain, Hash, Skip, Wide}
+use Rattle.rules.specs.declared.Method.the-variants.{Plain, Hash, Skip, Wide, Tail}
 
--- plain, hash, skip, wide
+-- plain, hash, skip, wide; and "`hits` prints it as a fifth line, `tail`" (document 02)
 abbrev pub nameOf : Method → List ℕ
 nameOf Plain = 112 ∷ 108 ∷ 97 ∷ 105 ∷ 110 ∷ []
 nameOf Hash = 104 ∷ 97 ∷ 115 ∷ 104 ∷ []
 nameOf Skip = 115 ∷ 107 ∷ 105 ∷ 112 ∷ []
 nameOf Wide = 119 ∷ 105 ∷ 100 ∷ 101 ∷ []
+nameOf Tail = 116 ∷ 97 ∷ 105 ∷ 108 ∷ []
 
 -- "refused", after a space
 abbrev pub refusedWord : List ℕ

@@ -28,6 +28,8 @@ const SKIP: [u8; 5] = *b"skip ";
 
 const WIDE: [u8; 5] = *b"wide ";
 
+const TAIL: [u8; 5] = *b"tail ";
+
 // Five bytes, and how many of them are the name.
 struct Name([u8; 5], usize);
 
@@ -39,6 +41,7 @@ fn name_of(method: Method) -> Name
         Method::Hash => Name(HASH, 4),
         Method::Skip => Name(SKIP, 4),
         Method::Wide => Name(WIDE, 4),
+        Method::Tail => Name(TAIL, 4),
     }
 }
 

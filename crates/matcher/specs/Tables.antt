@@ -7,7 +7,7 @@ use lib.Dec.{leb, ltb, eqb}
 use lib.ListN.{length, getD, drop}
 use Rattle.bits.specs.Packed.{bytesFor, bitsAt, bitOf, weight}
 use Rattle.rules.specs.declared.Method.{Method}
-use Rattle.rules.specs.declared.Method.the-variants.{Plain, Hash, Skip, Wide}
+use Rattle.rules.specs.declared.Method.the-variants.{Plain, Hash, Skip, Wide, Tail}
 use Rattle.rules.specs.Ranges.{implies}
 use Rattle.rules.specs.Pattern.{Pattern, agrees}
 use Rattle.rules.specs.Plain.{rowBit, maskBit}
@@ -50,11 +50,16 @@ passes w c q i = implies (leb i q && ltb (q - i) (w .count)) (agrees w (q - i) c
 pub record WideTables (w : Pattern) (cells : List ℕ) : Type 0 where
   pub flags-are : (q c i : ℕ) → q < 63 + w .count → c < 2 → i < 64 → weight (getD cells (2 * q + c) 0) i ≡ cond (passes w c q i) 1 0
 
+-- tail: bit j from the left of cell c is 1 where j is an index of the pattern and a text bit c agrees with it there
+pub record TailTables (w : Pattern) (cells : List ℕ) : Type 0 where
+  pub mask-is : (c j : ℕ) → c < 2 → j < 64 → bitOf 64 (getD cells c 0) j ≡ cond (ltb j (w .count) && agrees w j c) 1 0
+
 abbrev pub Tables : Method → Pattern → List ℕ → Type 0
 Tables Plain w cells = PlainTables w cells
 Tables Hash w cells = HashTables w cells
 Tables Skip w cells = SkipTables w cells
 Tables Wide w cells = WideTables w cells
+Tables Tail w cells = TailTables w cells
 
 -- the cells that a method's tables take
 abbrev pub cellsFor : Method → ℕ → ℕ
@@ -62,6 +67,7 @@ cellsFor Plain m = 16 * bytesFor (m + 7)
 cellsFor Hash m = 256
 cellsFor Skip m = 256 + m
 cellsFor Wide m = 2 * (63 + m)
+cellsFor Tail m = 2
 
 -- the tables are made, and the cells after them are as they were
 pub record Prepared (x : Method) (w : Pattern) (before cells : List ℕ) : Type 0 where

@@ -1,4 +1,4 @@
-// What the four methods share: the comparison at a place, and what their steps give back. A method is a crate of its own
+// What the methods share: the comparison at a place, and what their steps give back. A method is a crate of its own
 // with three functions: `prepare` makes its tables, `step` makes one step from any mark, `advance` makes many.
 pub mod compare;
 

@@ -1,4 +1,4 @@
-// The four methods under one small interface, chosen by `Method`: make the tables, make one step from any
+// The five methods under one small interface, chosen by `Method`: make the tables, make one step from any
 // mark, make many.
 use bits::Place;
 use matcher::Advance;
@@ -22,6 +22,7 @@ pub fn prepare(method: Method, pattern: &[u8], m: u32, cells: &mut [u64])
         Method::Hash => hash::prepare(pattern, m, cells),
         Method::Skip => skip::prepare(pattern, m, cells),
         Method::Wide => wide::prepare(pattern, m, cells),
+        Method::Tail => tail::prepare(pattern, m, cells),
     }
 }
 
@@ -48,6 +49,7 @@ pub fn step(
         Method::Hash => hash::step(text, n, pattern, m, h, cells, s, list, had),
         Method::Skip => skip::step(text, n, pattern, m, h, cells, s, list, had),
         Method::Wide => wide::step(text, n, pattern, m, h, cells, s, list, had),
+        Method::Tail => tail::step(text, n, pattern, m, h, cells, s, list, had),
     }
 }
 
@@ -75,5 +77,6 @@ pub fn advance(
         Method::Hash => hash::advance(text, n, pattern, m, h, cells, s, budget, list, had),
         Method::Skip => skip::advance(text, n, pattern, m, h, cells, s, budget, list, had),
         Method::Wide => wide::advance(text, n, pattern, m, h, cells, s, budget, list, had),
+        Method::Tail => tail::advance(text, n, pattern, m, h, cells, s, budget, list, had),
     }
 }

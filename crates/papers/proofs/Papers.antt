@@ -1,4 +1,4 @@
--- The starred rows hold: each computes.
+-- The rows hold: each computes.
 use mathlib.Core.Path.{refl}
 use Rattle.bits.specs.Packed.{bitAt, bitsAt}
 use Rattle.rules.specs.Ranges.{every, among, least, greatest}
@@ -8,6 +8,7 @@ use Rattle.rules.specs.Plain.{fromBits, inRow, rowBit, maskBit, rowByte, rowMas
 use Rattle.rules.specs.Hash.{meets, hashOf, hashAgain, lastEight, hashFinds, hashNext}
 use Rattle.rules.specs.Skip.{shows, shownAt, skipFinds}
 use Rattle.rules.specs.Wide.{counts, stands, flagged, wideFinds, lastIndex, wideNext}
+use Rattle.rules.specs.Tail.{prefixEnds, tailLength, tailFinds, tailNext}
 use Rattle.rules.specs.Step.{finds, ahead, next}
 use Rattle.rules.specs.Machine.{stopped, cut, after, run}
 use Rattle.rules.specs.Papers.{marksFrom}
@@ -16,7 +17,7 @@ use Rattle.positions.specs.Decode.{lastGroup, readGroups, readNumber, readPosit
 use Rattle.papers.specs.Papers.{Papers}
 
 pub papers : Papers
-unfolding bitAt bitsAt every among least greatest agrees matches occurs occurrences fromBits inRow rowBit maskBit rowByte rowMask rowFits plainFinds meets hashOf hashAgain lastEight hashFinds hashNext shows shownAt skipFinds counts stands flagged wideFinds lastIndex wideNext finds ahead next stopped cut after run marksFrom groups encodeNumber encodeFrom encode lastGroup readGroups readNumber readPosition readBody whole decode
+unfolding bitAt bitsAt every among least greatest agrees matches occurs occurrences fromBits inRow rowBit maskBit rowByte rowMask rowFits plainFinds meets hashOf hashAgain lastEight hashFinds hashNext shows shownAt skipFinds counts stands flagged wideFinds lastIndex wideNext prefixEnds tailLength tailFinds tailNext finds ahead next stopped cut after run marksFrom groups encodeNumber encodeFrom encode lastGroup readGroups readNumber readPosition readBody whole decode
 papers =
     record {
       r1-v1 = refl;
@@ -44,4 +45,15 @@ papers =
       list-three-back = refl;
       list-300-back = refl;
       list-empty-back = refl;
+      tail-marks-1 = refl;
+      tail-run-1 = refl;
+      tail-marks-2 = refl;
+      tail-run-2 = refl;
+      one-cell-tail = refl;
+      tail-marks-ones = refl;
+      tail-run-ones = refl;
+      tail-prefix = refl;
+      tail-border = refl;
+      tail-marks-3 = refl;
+      tail-run-3 = refl;
     }

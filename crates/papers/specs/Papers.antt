@@ -1,11 +1,13 @@
--- The starred rows of "Papers from the course", in document 01's order, as one claim about the definitions. The texts R1 and R2 and the
--- patterns V1 and V2 are those of rules/specs/Papers.antt.
+-- The starred rows of "Papers from the course", in document 01's order, and the tail method's rows after them, as one claim about the
+-- definitions. The texts R1 and R2 and the patterns V1 and V2 are those of rules/specs/Papers.antt.
 use mathlib.Core.Path.{_≡_}
 use mathlib.Core.List.{[], _∷_}
-use Rattle.rules.specs.declared.Method.the-variants.{Plain, Hash, Skip, Wide}
+use mathlib.Core.Option.{some}
+use Rattle.rules.specs.declared.Method.the-variants.{Plain, Hash, Skip, Wide, Tail}
 use Rattle.rules.specs.Hash.{hashOf}
+use Rattle.rules.specs.Tail.{tailLength}
 use Rattle.rules.specs.Machine.{done, full}
-use Rattle.rules.specs.Papers.{R1, V1, R2, V2, empty, ones5, one, ones3, zeros200, allOccurrences, wholeRun, marks}
+use Rattle.rules.specs.Papers.{R1, V1, R2, V2, empty, ones5, one, ones3, zeros200, tailText, tailPattern, allOccurrences, wholeRun, marks}
 use Rattle.positions.specs.Basics.{ok}
 use Rattle.positions.specs.Encode.{encode}
 use Rattle.positions.specs.Decode.{decode}
@@ -44,3 +46,16 @@ pub record Papers : Type 0 where
   pub list-three-back : decode (0x03 ∷ 0x00 ∷ 0x05 ∷ 0x05 ∷ []) 3 ≡ ok (0 ∷ 6 ∷ 12 ∷ [])
   pub list-300-back : decode (0x01 ∷ 0xAC ∷ 0x02 ∷ []) 1 ≡ ok (300 ∷ [])
   pub list-empty-back : decode (0x00 ∷ []) 0 ≡ ok []
+  -- Tail: V1 in R1; V2 in R2 with cells for all and with one; 111 in 11111. The marks are those before and after each step.
+  pub tail-marks-1 : marks Tail R1 V1 5 ≡ 0 ∷ 7 ∷ 11 ∷ 17 ∷ 26 ∷ 27 ∷ []
+  pub tail-run-1 : wholeRun Tail R1 V1 1000 ≡ record { steps = 5; written = 11 ∷ []; mark = 27; ending = done }
+  pub tail-marks-2 : marks Tail R2 V2 3 ≡ 0 ∷ 6 ∷ 12 ∷ 13 ∷ []
+  pub tail-run-2 : wholeRun Tail R2 V2 1000 ≡ record { steps = 3; written = 0 ∷ 6 ∷ 12 ∷ []; mark = 13; ending = done }
+  pub one-cell-tail : wholeRun Tail R2 V2 1 ≡ record { steps = 2; written = 0 ∷ []; mark = 6; ending = full 6 }
+  pub tail-marks-ones : marks Tail ones5 ones3 3 ≡ 0 ∷ 1 ∷ 2 ∷ 3 ∷ []
+  pub tail-run-ones : wholeRun Tail ones5 ones3 1000 ≡ record { steps = 3; written = 0 ∷ 1 ∷ 2 ∷ []; mark = 3; ending = done }
+  -- and a window that is no occurrence: its r is the length of a prefix that does not end the pattern itself (whose own r is 0)
+  pub tail-prefix : tailLength tailText tailPattern 0 ≡ some 3
+  pub tail-border : tailLength tailText tailPattern 4 ≡ some 0
+  pub tail-marks-3 : marks Tail tailText tailPattern 3 ≡ 0 ∷ 1 ∷ 4 ∷ 5 ∷ []
+  pub tail-run-3 : wholeRun Tail tailText tailPattern 1000 ≡ record { steps = 3; written = 4 ∷ []; mark = 5; ending = done }

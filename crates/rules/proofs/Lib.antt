@@ -8,6 +8,7 @@ pub mod Plain
 pub mod Hash
 pub mod Skip
 pub mod Wide
+pub mod Tail
 pub mod Methods
 pub mod Machine
 pub mod Padding

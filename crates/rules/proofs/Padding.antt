@@ -12,14 +12,15 @@ use borrow.Author.Tests.{ltb-false, leb-false}
 use Rattle.bits.specs.Packed.{Packed, bitAt, AgreeBelow}
 use Rattle.bits.proofs.Padding.{bits-below}
 use Rattle.rules.specs.declared.Method.{Method}
-use Rattle.rules.specs.declared.Method.the-variants.{Plain, Hash, Skip, Wide}
+use Rattle.rules.specs.declared.Method.the-variants.{Plain, Hash, Skip, Wide, Tail}
 use Rattle.rules.specs.Pattern.{Pattern, agrees}
 use Rattle.rules.specs.Occurrence.{places, Occurs, occurs, occurrences}
 use Rattle.rules.specs.Hash.{meets, hashOf, hashAgain, lastEight, hashNext}
 use Rattle.rules.specs.Wide.{window, lastIndex, beyond, wideNext}
+use Rattle.rules.specs.Tail.{prefixEnds, tailLength, tailNext}
 use Rattle.rules.specs.Step.{unfit, finds, ahead, next}
 use Rattle.rules.specs.Machine.{after, run}
-use Rattle.rules.proofs.Ranges.{same-test, among-same, least-same, greatest-same}
+use Rattle.rules.proofs.Ranges.{same-test, every-same, among-same, least-same, greatest-same}
 use Rattle.rules.proofs.Occurrence.{occurs-iff}
 use Rattle.rules.proofs.Hash.{meets-at, to-meets}
 use Rattle.rules.proofs.Methods.{sound}
@@ -102,6 +103,14 @@ module _ (n m : ℕ) (a b c d : List ℕ) (texts : AgreeBelow n a b) (patterns :
       go true e = refl
       go false e = rw (texts end (leb-false _ _ e), last-index-same m c d patterns _)
 
+  tail-same : (s : ℕ) → s < places (textBits n a) (patternBits m c) → tailNext (textBits n a) (patternBits m c) s ≡ tailNext (textBits n b) (patternBits m d) s
+  unfolding tailNext tailLength prefixEnds
+  tail-same s inside =
+      ap (beyond (s + m))
+      (greatest-same _ _ m (λ r l.
+      every-same r _ _ (λ j h.
+      rw (texts (s + m - r + j) (omega arith)) (agrees-same m c d patterns j _ (omega arith)))))
+
   ahead-same : (x : Method) → unfit x m ≡ false → (s : ℕ) → s < places (textBits n a) (patternBits m c)
       → ahead x (textBits n a) (patternBits m c) s ≡ ahead x (textBits n b) (patternBits m d) s
   unfolding ahead
@@ -109,6 +118,7 @@ module _ (n m : ℕ) (a b c d : List ℕ) (texts : AgreeBelow n a b) (patterns :
   ahead-same Hash fit s inside = hash-same s (ltb-false _ _ fit) inside
   ahead-same Skip fit s inside = refl
   ahead-same Wide fit s inside = wide-same s
+  ahead-same Tail fit s inside = tail-same s inside
 
   module _ (x : Method) (fit : unfit x m ≡ false) where
     next-same : (s : ℕ) → s < places (textBits n a) (patternBits m c) → next x (textBits n a) (patternBits m c) s ≡ next x (textBits n b) (patternBits m d) s

@@ -1,4 +1,5 @@
--- What each method finds and how the machine makes its steps, in the order of document 01: a reader believes these definitions.
+-- What each method finds and how the machine makes its steps, in the order of document 01 and of its changes: a reader believes
+-- these definitions.
 pub mod Ranges
 pub mod Pattern
 pub mod Occurrence
@@ -6,6 +7,7 @@ pub mod Plain
 pub mod Hash
 pub mod Skip
 pub mod Wide
+pub mod Tail
 pub mod Step
 pub mod Machine
 pub mod Papers

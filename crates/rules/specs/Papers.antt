@@ -39,6 +39,13 @@ one = record { bytes = 0b10000000 ∷ []; count = 1 }
 abbrev pub ones3 : Pattern
 ones3 = record { bytes = 0b11100000 ∷ []; count = 3 }
 
+-- a window, 1001, whose r = 3 comes from the prefix 001 of 0011, which does not end the pattern itself
+abbrev pub tailText : Packed
+tailText = record { bytes = 0b10010011 ∷ []; count = 8 }
+
+abbrev pub tailPattern : Pattern
+tailPattern = record { bytes = 0b00110000 ∷ []; count = 4 }
+
 -- 200 zero bits
 abbrev pub zeros200 : Packed
 zeros200 = record { bytes = replicate 25 0; count = 200 }

@@ -33,7 +33,7 @@ wideFinds t w s = among (flagged t w s) s 64
 unfoldable pub lastIndex : Pattern → ℕ → Option ℕ
 lastIndex w c = greatest (λ k. agrees w k c) (w .count)
 
--- with e = s + ws: "next is s + ws − k .. or s + ws + 1 if w has no c"
+-- with e = s + ws: "next is s + ws − k .. or s + ws + 1 if w has no c". In the tail method e is s + m.
 abbrev pub beyond : ℕ → Option ℕ → ℕ
 beyond e none = e + 1
 beyond e (some k) = e - k

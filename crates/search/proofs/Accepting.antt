@@ -11,7 +11,7 @@ use lib.ListN.{length, drop}
 use lib.Seq.{drop-drop}
 use Rattle.bits.specs.Packed.{Packed}
 use Rattle.rules.specs.declared.Method.{Method}
-use Rattle.rules.specs.declared.Method.the-variants.{Plain, Hash, Skip, Wide}
+use Rattle.rules.specs.declared.Method.the-variants.{Plain, Hash, Skip, Wide, Tail}
 use Rattle.search.specs.declared.Answer.{Answer}
 use Rattle.search.specs.declared.Refusal.{Refusal}
 use Rattle.search.specs.declared.check.Checked.{Checked}
@@ -34,6 +34,7 @@ tables-fit Plain w g = omega (arith, g .few-bits)
 tables-fit Hash w g = omega arith
 tables-fit Skip w g = omega (arith, g .few-bits)
 tables-fit Wide w g = omega (arith, g .few-bits)
+tables-fit Tail w g = omega arith
 
 neither : (a b : Bool) → (a || b) ≡ false → (a ≡ false) × (b ≡ false)
 neither true b e = let z : _≡_ {A = ℕ} 0 1 = cc in absurd (omega arith)

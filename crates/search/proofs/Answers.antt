@@ -12,7 +12,7 @@ use Rattle.search.specs.declared.Answer.{Answer}
 use Rattle.search.specs.declared.Outcome.{Outcome}
 use Rattle.search.specs.declared.Outcome.the-variants.{Accepted, Refused}
 use Rattle.search.specs.declared.Refusal.{Refusal}
-use Rattle.search.specs.declared.Refusal.the-variants.{TextTooLong, TextBytesMissing, PatternLength, PatternBytesMissing, PatternTooShort, BeyondEnd, ScratchTooShort}
+use Rattle.search.specs.declared.Refusal.the-variants.{TextTooLong, TextBytesMissing, PatternLength, PatternBytesMissing, PatternUnfit, BeyondEnd, ScratchTooShort}
 use Rattle.search.specs.declared.Stop.{Stop}
 use Rattle.search.specs.declared.Stop.the-variants.{Done, Full, Spent}
 use Rattle.rules.specs.Machine.{Ending, done, spent, full, Run}
@@ -26,7 +26,7 @@ refusalOf k =
     (cond (eqb k 2) TextBytesMissing
     (cond (eqb k 3) PatternLength
     (cond (eqb k 4) PatternBytesMissing
-    (cond (eqb k 5) PatternTooShort
+    (cond (eqb k 5) PatternUnfit
     (cond (eqb k 6) BeyondEnd ScratchTooShort)))))
 
 refusal-back : (r : Refusal) → refusalOf (numberOfRefusal r) ≡ r
@@ -35,7 +35,7 @@ refusal-back TextTooLong = refl
 refusal-back TextBytesMissing = refl
 refusal-back PatternLength = refl
 refusal-back PatternBytesMissing = refl
-refusal-back PatternTooShort = refl
+refusal-back PatternUnfit = refl
 refusal-back BeyondEnd = refl
 refusal-back ScratchTooShort = refl
 

@@ -15,6 +15,7 @@ use Rattle.rules.specs.Plain.{fromBits, inRow, rowBit, maskBit, rowByte, rowMas
 use Rattle.rules.specs.Hash.{meets, hashOf, hashAgain, lastEight, hashFinds, hashNext}
 use Rattle.rules.specs.Skip.{shows, shownAt, skipFinds}
 use Rattle.rules.specs.Wide.{counts, stands, flagged, wideFinds, lastIndex, wideNext}
+use Rattle.rules.specs.Tail.{prefixEnds, tailLength, tailFinds, tailNext}
 use Rattle.rules.specs.Step.{finds, ahead, next}
 use Rattle.rules.specs.Machine.{stopped, cut, after, run}
 use Rattle.search.specs.Verdict.{rows, judge, accepted, machine, verdict, hashVerdict}
@@ -28,7 +29,7 @@ long-text bytes h =
     accepted-iff (ask Plain (long bytes) V1 0 4224) .1 (refl, (le-ltb (length bytes) (2 ^ 27) h, (refl, (refl, (refl, (refl, (refl, tt)))))))
 
 pub examples : Examples
-unfolding bitAt bitsAt every among least greatest agrees matches occurs occurrences fromBits inRow rowBit maskBit rowByte rowMask rowFits plainFinds meets hashOf hashAgain lastEight hashFinds hashNext shows shownAt skipFinds counts stands flagged wideFinds lastIndex wideNext finds ahead next stopped cut after run rows judge verdict hashVerdict
+unfolding bitAt bitsAt every among least greatest agrees matches occurs occurrences fromBits inRow rowBit maskBit rowByte rowMask rowFits plainFinds meets hashOf hashAgain lastEight hashFinds hashNext shows shownAt skipFinds counts stands flagged wideFinds lastIndex wideNext prefixEnds tailLength tailFinds tailNext finds ahead next stopped cut after run rows judge verdict hashVerdict
 examples =
     record {
       no-1 = refl;
@@ -38,6 +39,10 @@ examples =
       no-4 = refl;
       no-5 = refl;
       no-5-skip = refl;
+      no-5-tail = refl;
+      no-4-tail = refl;
+      from-5-tail = refl;
+      no-7-tail = refl;
       no-6 = refl;
       no-7 = refl;
       all-hold = refl;
@@ -47,11 +52,14 @@ examples =
       long-pattern = refl;
       hash-8 = refl;
       skip-15 = refl;
+      tail-64 = refl;
+      tail-1 = refl;
       at-end = refl;
       prints-plain = refl;
       prints-hash = refl;
       prints-skip = refl;
       prints-wide = refl;
+      prints-tail = refl;
       flag-past = refl;
       h-value = refl;
       h-3 = refl;

@@ -7,7 +7,7 @@ use mathlib.Core.List.{List, [], _∷_}
 use lib.ListN.{length, replicate}
 use Rattle.bits.specs.Packed.{Packed}
 use Rattle.rules.specs.declared.Method.{Method}
-use Rattle.rules.specs.declared.Method.the-variants.{Plain, Hash, Skip, Wide}
+use Rattle.rules.specs.declared.Method.the-variants.{Plain, Hash, Skip, Wide, Tail}
 use Rattle.rules.specs.Pattern.{Pattern}
 use Rattle.rules.specs.Wide.{stands}
 use Rattle.rules.specs.Machine.{done}
@@ -46,6 +46,11 @@ pub record Examples : Type 0 where
   pub no-4 : verdict (ask Plain R1 (pattern 9 1) 0 4224) ≡ refused 4
   pub no-5 : verdict (ask Hash R1 (pattern 7 1) 0 4224) ≡ refused 5
   pub no-5-skip : verdict (ask Skip R1 (pattern 14 2) 0 4224) ≡ refused 5
+  -- tail "takes words of at most 64 bits; a longer one gets 5", before 6 and 7 and after 4
+  pub no-5-tail : verdict (ask Tail R1 (pattern 65 9) 0 4224) ≡ refused 5
+  pub no-4-tail : verdict (ask Tail R1 (pattern 65 8) 0 4224) ≡ refused 4
+  pub from-5-tail : verdict (ask Tail R1 (pattern 65 9) 1 0) ≡ refused 5
+  pub no-7-tail : verdict (ask Tail R1 V1 0 4223) ≡ refused 7
   pub no-6 : verdict (ask Plain R1 V1 28 4224) ≡ refused 6
   pub no-7 : verdict (ask Plain R1 V1 0 4223) ≡ refused 7
   -- where several conditions hold the first one is given
@@ -57,12 +62,15 @@ pub record Examples : Type 0 where
   pub long-pattern : verdict (ask Plain R1 (pattern 2048 256) 0 4224) ≡ accepted (machine (ask Plain R1 (pattern 2048 256) 0 4224))
   pub hash-8 : verdict (ask Hash R1 (pattern 8 1) 0 4224) ≡ accepted (machine (ask Hash R1 (pattern 8 1) 0 4224))
   pub skip-15 : verdict (ask Skip R1 (pattern 15 2) 0 4224) ≡ accepted (machine (ask Skip R1 (pattern 15 2) 0 4224))
+  pub tail-64 : verdict (ask Tail R1 (pattern 64 8) 0 4224) ≡ accepted (machine (ask Tail R1 (pattern 64 8) 0 4224))
+  pub tail-1 : verdict (ask Tail R1 (pattern 1 1) 0 4224) ≡ accepted (machine (ask Tail R1 (pattern 1 1) 0 4224))
   pub at-end : verdict (ask Plain R1 V1 27 4224) ≡ accepted (machine (ask Plain R1 V1 27 4224))
-  -- what `hits` prints for V1 and R1: "plain 27 1 11", "hash 5 1 11", "skip refused 5", "wide 1 1 11"
+  -- what `hits` prints for V1 and R1: "plain 27 1 11", "hash 5 1 11", "skip refused 5", "wide 1 1 11"; and "tail 5 1 11"
   pub prints-plain : wholeRun Plain R1 V1 40 ≡ record { steps = 27; written = 11 ∷ []; mark = 27; ending = done }
   pub prints-hash : wholeRun Hash R1 V1 40 ≡ record { steps = 5; written = 11 ∷ []; mark = 27; ending = done }
   pub prints-skip : verdict (ask Skip R1 V1 0 4224) ≡ refused 5
   pub prints-wide : wholeRun Wide R1 V1 40 ≡ record { steps = 1; written = 11 ∷ []; mark = 27; ending = done }
+  pub prints-tail : wholeRun Tail R1 V1 40 ≡ record { steps = 5; written = 11 ∷ []; mark = 27; ending = done }
   -- "Bits from n on never matter": the flag of place 3 for 111 in 11111 stands by bits 3 and 4, though 3 is no place
   pub flag-past : stands ones5 ones3 0 3 ≡ true
   -- H(B) by itself

@@ -12,7 +12,7 @@ use Rattle.rules.specs.declared.Method.the-variants.{Hash}
 use Rattle.search.specs.declared.Outcome.{Outcome}
 use Rattle.search.specs.declared.Outcome.the-variants.{Accepted, Refused}
 use Rattle.search.specs.declared.Refusal.{Refusal}
-use Rattle.search.specs.declared.Refusal.the-variants.{TextTooLong, TextBytesMissing, PatternLength, PatternBytesMissing, PatternTooShort, BeyondEnd, ScratchTooShort}
+use Rattle.search.specs.declared.Refusal.the-variants.{TextTooLong, TextBytesMissing, PatternLength, PatternBytesMissing, PatternUnfit, BeyondEnd, ScratchTooShort}
 use Rattle.search.specs.declared.Stop.{Stop}
 use Rattle.search.specs.declared.Stop.the-variants.{Done, Full, Spent}
 use Rattle.rules.specs.Pattern.{Pattern}
@@ -52,9 +52,9 @@ patternLength w = record { number = 3; holds = eqb (w .count) 0 || ltb 2048 (w .
 abbrev pub patternBytesMissing : Pattern → Row
 patternBytesMissing w = record { number = 4; holds = ltb (length (w .bytes)) (bytesFor (w .count)) }
 
--- "word too short: m below 8 for hash and H, below 15 for skip"
-abbrev pub patternTooShort : Method → Pattern → Row
-patternTooShort x w = record { number = 5; holds = unfit x (w .count) }
+-- "word too short: m below 8 for hash and H, below 15 for skip"; and for tail a word of more than 64 bits "gets 5"
+abbrev pub patternUnfit : Method → Pattern → Row
+patternUnfit x w = record { number = 5; holds = unfit x (w .count) }
 
 -- "mark above E"
 abbrev pub markBeyond : Packed → Pattern → ℕ → Row
@@ -74,7 +74,7 @@ rows q =
     ∷ textBytesMissing (q .text)
     ∷ patternLength (q .pattern)
     ∷ patternBytesMissing (q .pattern)
-    ∷ patternTooShort (q .method) (q .pattern)
+    ∷ patternUnfit (q .method) (q .pattern)
     ∷ markBeyond (q .text) (q .pattern) (q .mark)
     ∷ scratchTooShort (q .scratch)
     ∷ []
@@ -116,7 +116,7 @@ verdict q = judge (rows q) (machine q)
 -- "H(B) can also be had by itself from a word and a value, with refusals 3, 4, 5."
 unfoldable pub hashVerdict : Pattern → ℕ → Verdict ℕ
 hashVerdict w B =
-    judge (patternLength w ∷ patternBytesMissing w ∷ patternTooShort Hash w ∷ []) (hashOf w B)
+    judge (patternLength w ∷ patternBytesMissing w ∷ patternUnfit Hash w ∷ []) (hashOf w B)
 
 -- the number of each refusal
 abbrev pub numberOfRefusal : Refusal → ℕ
@@ -124,7 +124,7 @@ numberOfRefusal TextTooLong = 1
 numberOfRefusal TextBytesMissing = 2
 numberOfRefusal PatternLength = 3
 numberOfRefusal PatternBytesMissing = 4
-numberOfRefusal PatternTooShort = 5
+numberOfRefusal PatternUnfit = 5
 numberOfRefusal BeyondEnd = 6
 numberOfRefusal ScratchTooShort = 7
 

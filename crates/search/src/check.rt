@@ -15,7 +15,7 @@ pub enum Checked {
 }
 
 // Whether the method takes no pattern of m bits.
-fn too_short(method: Method, m: u64) -> bool
+fn does_not_fit(method: Method, m: u64) -> bool
     ensures { λ r. ⌜ r ≡ unfit method m ⌝ }
 {
     match method {
@@ -23,6 +23,7 @@ fn too_short(method: Method, m: u64) -> bool
         Method::Hash => m < 8,
         Method::Skip => m < 15,
         Method::Wide => false,
+        Method::Tail => 64 < m,
     }
 }
 
@@ -61,8 +62,8 @@ pub fn check(
     if (pattern.len() as u64) < bits::bytes_for(m) {
         return Checked::Refused(Refusal::PatternBytesMissing);
     }
-    if too_short(method, m) {
-        return Checked::Refused(Refusal::PatternTooShort);
+    if does_not_fit(method, m) {
+        return Checked::Refused(Refusal::PatternUnfit);
     }
     if places(n, m) < mark.0 as u64 {
         return Checked::Refused(Refusal::BeyondEnd);

@@ -25,7 +25,7 @@ pub fn hash_value(pattern: &[u8], m: u64, value: u8) -> HashAnswer
         return HashAnswer::Refused(Refusal::PatternBytesMissing);
     }
     if m < 8 {
-        return HashAnswer::Refused(Refusal::PatternTooShort);
+        return HashAnswer::Refused(Refusal::PatternUnfit);
     }
     HashAnswer::Value(value::hash_of(pattern, m as u32, value))
 }

@@ -1,4 +1,4 @@
-// Search for a pattern of bits in a packed text, in four ways. The types that a call takes and gives; what they mean is
+// Search for a pattern of bits in a packed text, in five ways. The types that a call takes and gives; what they mean is
 // in specs/, and the theorems about every list of calls are in proofs/.
 mod call;
 mod check;
@@ -41,7 +41,7 @@ pub enum Refusal {
     TextBytesMissing,
     PatternLength,
     PatternBytesMissing,
-    PatternTooShort,
+    PatternUnfit,
     BeyondEnd,
     ScratchTooShort,
 }
@@ -56,7 +56,7 @@ impl Refusal {
             Refusal::TextBytesMissing => 2,
             Refusal::PatternLength => 3,
             Refusal::PatternBytesMissing => 4,
-            Refusal::PatternTooShort => 5,
+            Refusal::PatternUnfit => 5,
             Refusal::BeyondEnd => 6,
             Refusal::ScratchTooShort => 7,
         }

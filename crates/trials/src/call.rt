@@ -37,7 +37,8 @@ fn method_of(way: usize) -> Method {
         0 => Method::Plain,
         1 => Method::Hash,
         2 => Method::Skip,
-        _ => Method::Wide,
+        3 => Method::Wide,
+        _ => Method::Tail,
     }
 }
 

@@ -23,8 +23,8 @@ const SCRATCHES: [usize; 8] = [0, 4224, 4223, 1, 4224, 1, 4224, 7];
 // The method of a call on a pattern of m bits. One that does not take the pattern stays, and is refused, once in four draws;
 // else the call is a plain or a wide one.
 fn drawn_way(m: usize, x: usize, d: usize) -> usize {
-    let way = draw(x, d, 4);
-    if (m < naive::shortest(way)) & (0 < draw(x, plus(d, 1), 4)) {
+    let way = draw(x, d, 5);
+    if naive::unfit(way, m) & (0 < draw(x, plus(d, 1), 4)) {
         draw(x, plus(d, 2), 2) % 2 * 3
     } else {
         way

@@ -47,16 +47,15 @@ const PATTERNS: [usize; 28] = [
     40,
 ];
 
-// A length that is too short for the method grows by the shortest one that the method takes; once in eight draws it stays.
+// A length that the method does not take stays once in eight draws; else it is cut below 64 and grows by the shortest one
+// that the method takes.
 pub(crate) fn pattern_length(x: usize, way: usize) -> usize {
     let m = choose(&PATTERNS, draw(x, 0, 40), x, 1);
-    let least = naive::shortest(way);
-    let more = if (m < least) & (0 < draw(x, 2, 8)) {
-        least
+    if naive::unfit(way, m) & (0 < draw(x, 2, 8)) {
+        plus(m % 64, naive::shortest(way))
     } else {
-        0
-    };
-    plus(m, more)
+        m
+    }
 }
 
 // Lengths of the text of every class, each with 1 added; the class is drawn out of 32. The first two have whole bytes or a bit more; the next two are any
@@ -84,9 +83,9 @@ const TEXTS: [usize; 20] = [
     200,
 ];
 
-// A list of calls, kind 4, has no text of the last class, so that it goes far.
+// A list of calls, kind 5, has no text of the last class, so that it goes far.
 fn text_length(x: usize, m: usize, way: usize) -> usize {
-    let class = least_of(draw(x, 3, 32), 9 - way / 4 % 2);
+    let class = least_of(draw(x, 3, 32), 9 - way / 5 % 2);
     let more = choose(&TEXTS, class, x, 4);
     if class < 2 {
         return plus(more / 8 * 8, class);
@@ -113,6 +112,13 @@ pub(crate) fn repeat(s: &mut [u8], at: usize, k: usize, period: usize) {
 // Text and pattern in a buffer of drawn bits stay random or become repetitive; the pattern is often a part of the text.
 fn draw_bits(s: &mut [u8], n: usize, m: usize, x: usize) {
     repeat(s, TEXT_BIT, n, period(x, 5));
+    // in two of three draws up to 79 bits somewhere in the text are one bit or two bits again and again
+    repeat(
+        s,
+        plus(TEXT_BIT, draw(x, 18, n)),
+        draw(x, 19, 80),
+        draw(x, 20, 3),
+    );
     if draw(x, 7, 4) == 0 {
         repeat(s, 0, m, period(x, 8));
     } else {
@@ -143,7 +149,7 @@ fn whole(way: usize, x: usize, s: &mut [u8]) -> Call {
 
 // The edges: bits of the text, bits of the pattern, bytes of the pattern, and the mark, on top of the number of places
 // less 1.
-const EDGES: [usize; 24] = [
+const EDGES: [usize; 26] = [
     8,
     9,
     16,
@@ -156,9 +162,11 @@ const EDGES: [usize; 24] = [
     9,
     14,
     15,
+    16,
+    64,
+    65,
     2048,
     2049,
-    16,
     0,
     1,
     2,
@@ -171,29 +179,29 @@ const EDGES: [usize; 24] = [
 ];
 
 // How many rows there are.
-pub(crate) const ROWS: usize = 32000;
+pub(crate) const ROWS: usize = 48000;
 
 // Each refusal at its edges, with the neighbours that are accepted, alone and together: the row's number tells which.
 fn row(edges: &[usize], i: usize) -> Call {
     let n = entry(edges, i % 5);
-    let m = entry(edges, 5 + i / 5 % 10);
+    let m = entry(edges, 5 + i / 5 % 12);
     Call {
         n: n,
-        text: i / 50 % 4,
+        text: i / 60 % 4,
         m: m,
-        pattern: entry(edges, 15 + i / 200 % 5),
-        way: i / 1000 % 4,
+        pattern: entry(edges, 17 + i / 240 % 5),
+        way: i / 1200 % 5,
         mark: minus(
-            plus(naive::places(n, m), entry(edges, 20 + i / 4000 % 4)),
+            plus(naive::places(n, m), entry(edges, 22 + i / 6000 % 4)),
             1,
         ),
         budget: ALL,
         room: 20,
-        scratch: 4224 - i / 16000 % 2,
+        scratch: 4224 - i / 24000 % 2,
     }
 }
 
-// A case over drawn buffers: kinds 0 to 3 are the methods whole, 4 is a list of calls, 5 a row of the refusals.
+// A case over drawn buffers: kinds 0 to 4 are the methods whole, 5 is a list of calls, 6 a row of the refusals.
 pub(crate) fn one(
     kind: usize,
     i: usize,
@@ -201,12 +209,12 @@ pub(crate) fn one(
     s: &mut [u8; 813],
     list: &mut [u32; 4400],
 ) -> bool {
-    let c = if kind == 5 {
+    let c = if kind == 6 {
         row(&EDGES, i)
     } else {
         whole(kind, x, s)
     };
-    if kind == 4 {
+    if kind == 5 {
         return joined(c, x, s, list);
     }
     let run = single(c, x, s, list);

@@ -1,5 +1,5 @@
-// A naive search, bit by bit, and the table of refusals: the written rules of document 01. The pattern lies at the front of
-// a buffer and the text from TEXT on.
+// A naive search, bit by bit, and the table of refusals: the written rules of documents 01 and 02. The pattern lies at the
+// front of a buffer and the text from TEXT on.
 use crate::call::Call;
 use draws::cells::get32;
 use draws::number::ceiling;
@@ -28,11 +28,18 @@ pub(crate) fn places(n: usize, m: usize) -> usize {
     if m <= n { plus(minus(n, m), 1) } else { 0 }
 }
 
-// The shortest pattern that a method takes.
-const SHORTEST: [usize; 4] = [1, 8, 15, 1];
+// The shortest and the longest pattern that a method takes.
+const SHORTEST: [usize; 5] = [1, 8, 15, 1, 1];
+
+const LONGEST: [usize; 5] = [2048, 2048, 2048, 2048, 64];
 
 pub(crate) fn shortest(way: usize) -> usize {
-    SHORTEST[way % 4]
+    SHORTEST[way % 5]
+}
+
+// Whether the method takes no pattern of m bits.
+pub(crate) fn unfit(way: usize, m: usize) -> bool {
+    (m < SHORTEST[way % 5]) | (LONGEST[way % 5] < m)
 }
 
 // The first row of the table of refusals whose condition holds, or 0. The rows are taken from the last one on, so that the
@@ -45,7 +52,7 @@ pub(crate) fn refusal(c: Call) -> usize {
     if places(c.n, c.m) < c.mark {
         why = 6;
     }
-    if c.m < shortest(c.way) {
+    if unfit(c.way, c.m) {
         why = 5;
     }
     if c.pattern < ceiling(c.m) {
@@ -112,6 +119,25 @@ fn next_wide(s: &[u8], n: usize, m: usize, at: usize) -> usize {
     )
 }
 
+// The greatest length r below m such that the pattern's first r bits equal the window's last r bits, those before `end`.
+// Length 0 always is one.
+fn prefix_length(s: &[u8], m: usize, end: usize) -> usize {
+    let mut r = minus(m, 1);
+    while 0 < r {
+        if agree(s, 0, minus(end, r), r) {
+            return r;
+        }
+        r -= 1;
+    }
+    0
+}
+
+fn next_tail(s: &[u8], m: usize, at: usize) -> usize {
+    // s + m − r
+    let after = plus(at, m);
+    minus(after, prefix_length(s, m, plus(TEXT_BIT, after)))
+}
+
 // The method's next mark, not cut down to the number of places.
 fn next_mark(c: Call, s: &[u8], at: usize) -> usize {
     let way = c.way;
@@ -119,7 +145,8 @@ fn next_mark(c: Call, s: &[u8], at: usize) -> usize {
         0 => plus(at, 1),
         1 => next_hash(s, c.m, at),
         2 => plus(minus(plus(at, c.m) / 8 * 8, 8), 1),
-        _ => next_wide(s, c.n, c.m, at),
+        3 => next_wide(s, c.n, c.m, at),
+        _ => next_tail(s, c.m, at),
     }
 }
 

@@ -1,5 +1,5 @@
 // Named cases: the course's papers, what students write, and the examples of rows 1 to 7 of the table of refusals, in
-// document 01. Each is also compared with the naive side.
+// document 01; and tail on the same pairs and one more, by the rule of document 02. Each is also compared with the naive side.
 use crate::call;
 use crate::call::ALL;
 use crate::call::Call;
@@ -14,7 +14,7 @@ use draws::packed::put_digits;
 struct Row(usize, usize, usize, usize, usize, usize, usize, usize);
 
 // Texts and patterns, each by its digits and its bits, and the occurrences: the first, and how far apart the next ones are.
-const PAIRS: [Row; 9] = [
+const PAIRS: [Row; 10] = [
     // R1 and V1
     Row(
         0b011001001000100110100101000101001001,
@@ -57,27 +57,34 @@ const PAIRS: [Row; 9] = [
     // a place at a whole byte, for which some take a row 8
     Row(0b000000001011, 12, 0b1011, 4, 8, 0, 0, 0),
     Row(0b00000000000000001011, 20, 0b1011, 4, 16, 0, 0, 0),
+    // a window, 1001, that ends with 001, the pattern's first bits, with which the pattern itself does not end
+    Row(0b10010011, 8, 0b0011, 4, 4, 0, 0, 0),
 ];
 
 fn pair(i: usize) -> Row {
-    PAIRS[i % 9]
+    PAIRS[i % 10]
 }
 
 // Searches of a pair, by their digits: the pair, the method, the budget, which is 9 for all steps, and the cells; then the
 // steps, the occurrences written, the mark, and 0 for done, 1 for full, 2 for spent.
-const SEARCHES: [usize; 36] = [
+const SEARCHES: [usize; 59] = [
     // the papers with whole answers
     0_0_9_3_027_1_027_0,
     0_1_9_3_005_1_027_0,
     0_3_9_3_001_1_027_0,
+    0_4_9_3_005_1_027_0,
     1_0_9_4_013_3_013_0,
     1_1_9_4_003_3_013_0,
     1_2_9_4_002_3_013_0,
     1_3_9_4_001_3_013_0,
+    1_4_9_4_003_3_013_0,
     3_0_9_1_000_0_000_0,
     3_3_9_1_000_0_000_0,
+    3_4_9_1_000_0_000_0,
     2_0_9_3_003_3_003_0,
     2_3_9_3_001_3_003_0,
+    2_4_9_3_003_3_003_0,
+    9_4_9_3_003_1_005_0,
     // the papers with marks, by the budget
     0_1_1_3_001_0_007_2,
     0_1_2_3_002_0_011_2,
@@ -88,29 +95,47 @@ const SEARCHES: [usize; 36] = [
     4_3_2_1_002_0_130_2,
     4_3_3_1_003_0_195_2,
     4_3_9_1_004_0_200_0,
+    0_4_1_3_001_0_007_2,
+    0_4_2_3_002_0_011_2,
+    0_4_3_3_003_1_017_2,
+    0_4_4_3_004_1_026_2,
+    1_4_1_4_001_1_006_2,
+    1_4_2_4_002_2_012_2,
+    2_4_1_3_001_1_001_2,
+    2_4_2_3_002_2_002_2,
+    9_4_1_3_001_0_001_2,
+    9_4_2_3_002_0_004_2,
+    4_4_9_1_200_0_200_0,
     // one cell
     1_0_9_1_007_1_006_1,
     1_1_9_1_002_1_006_1,
     1_2_9_1_001_1_006_1,
     1_3_9_1_001_1_006_1,
+    1_4_9_1_002_1_006_1,
     // what students write: padding, a row 8, and a full list where no further occurrence exists (moving by m after a hash
     // hit, and giving the place's last bit, are ruled out by the papers above)
     5_0_9_2_001_0_001_0,
     5_3_9_2_001_0_001_0,
+    5_4_9_2_001_0_001_0,
     6_1_9_2_006_0_006_0,
     6_2_9_2_002_0_006_0,
+    6_4_9_2_001_0_006_0,
     7_0_9_2_009_1_009_0,
     8_0_9_2_017_1_017_0,
+    7_4_9_2_003_1_009_0,
+    8_4_9_2_005_1_017_0,
     1_0_9_3_013_3_013_0,
     1_1_9_3_003_3_013_0,
     1_2_9_3_002_3_013_0,
     1_3_9_3_001_3_013_0,
+    1_4_9_3_003_3_013_0,
     1_0_9_2_013_2_012_1,
     1_1_9_2_003_2_012_1,
+    1_4_9_2_003_2_012_1,
 ];
 
 fn of_search(i: usize) -> Row {
-    let d = SEARCHES[i % 36];
+    let d = SEARCHES[i % 59];
     let digit = d / 1000000000 % 10;
     let budget = if digit < 9 { digit } else { ALL };
     Row(
@@ -152,7 +177,7 @@ fn search(i: usize, x: usize, s: &mut [u8; 813], list: &mut [u32; 4400]) -> bool
 
 // The examples of rows 1 to 7, and what is accepted beside them: the number, n and the text's bytes, m and the pattern's
 // bytes, the method, the mark and the cells of the scratch.
-const REFUSALS: [Row; 12] = [
+const REFUSALS: [Row; 16] = [
     Row(1, 1073741825, 8, 10, 2, 0, 0, 4224),
     Row(2, 1073741824, 8, 10, 2, 0, 0, 4224),
     Row(2, 9, 1, 8, 1, 0, 0, 4224),
@@ -165,10 +190,15 @@ const REFUSALS: [Row; 12] = [
     Row(0, 9, 2, 2048, 256, 3, 0, 4224),
     Row(0, 9, 2, 8, 1, 1, 0, 4224),
     Row(0, 36, 5, 15, 2, 2, 0, 4224),
+    // tail: a pattern of 65 bits, 4 before that, 5 before 6 and 7, and one of 64 bits
+    Row(5, 36, 5, 65, 9, 4, 0, 4224),
+    Row(4, 36, 5, 65, 8, 4, 0, 4224),
+    Row(5, 36, 5, 65, 9, 4, 1, 4223),
+    Row(0, 36, 5, 64, 8, 4, 0, 4224),
 ];
 
 fn of_refusal(i: usize) -> Row {
-    REFUSALS[i % 12]
+    REFUSALS[i % 16]
 }
 
 fn refusal(i: usize, x: usize, s: &[u8], list: &mut [u32]) -> bool {
@@ -200,11 +230,11 @@ fn hash(i: usize, s: &mut [u8]) -> bool {
 
 // A case over a buffer of zeros.
 pub(crate) fn one(i: usize, x: usize, s: &mut [u8; 813], list: &mut [u32; 4400]) -> bool {
-    if i < 36 {
+    if i < 59 {
         return search(i, x, s, list);
     }
-    if i < 48 {
+    if i < 75 {
         return refusal(i, x, s, list);
     }
-    hash(i - 48, s)
+    hash(i - 75, s)
 }

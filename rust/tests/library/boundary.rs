@@ -1,5 +1,6 @@
 //! The lengths and the types at the boundary: nothing checks the declarations in `ffi` against the library, so each
 //! parameter is handed over with values that a narrower type or another order would change.
+use crate::rules::{pattern_bits, METHODS};
 use mitongory::{ffi, SCRATCH_CELLS};
 
 /// A search with a fresh scratch: the number and the answer.
@@ -18,9 +19,13 @@ const UNCHANGED: [u64; 4] = [9; 4];
 fn numbers_of_32_bits() {
     let text = vec![0; 1 << 15];
     let n = 1 << 18;
-    for bit in 2..32 {
-        assert_eq!(search(&text, n, &[0x80], 1, [1 << bit, 0, 1], &mut []), (100, UNCHANGED));
-        assert_eq!(search(&text, n, &[0x80], 1, [1 << bit | 3, 0, 1], &mut []), (100, UNCHANGED));
+    for bit in 3..32 {
+        for method in 0..=7 {
+            assert_eq!(search(&text, n, &[0x80], 1, [1 << bit | method, 0, 1], &mut []), (100, UNCHANGED));
+        }
+    }
+    for method in 5..=7 {
+        assert_eq!(search(&text, n, &[0x80], 1, [method, 0, 1], &mut []), (100, UNCHANGED));
     }
     for bit in 0..32 {
         let (mark, budget) = (1u32 << bit, 1u32 << bit);
@@ -94,7 +99,7 @@ fn lengths() {
 #[test]
 fn nothing_lent() {
     assert_eq!(ffi::search(&[], 0, &[], 0, 0, 0, 0, &mut [], &mut [], &mut []), 101);
-    assert_eq!(ffi::search(&[], 0, &[], 0, 4, 0, 0, &mut [], &mut [], &mut []), 100);
+    assert_eq!(ffi::search(&[], 0, &[], 0, 5, 0, 0, &mut [], &mut [], &mut []), 100);
     assert_eq!(ffi::search(&[], 0, &[], 0, 0, 0, 0, &mut [], &mut [], &mut [0; 4]), 3);
     assert_eq!(ffi::search(&[], 0, &[0], 1, 0, 0, 0, &mut [], &mut [], &mut [0; 4]), 7);
     assert_eq!(ffi::hash_value(&[], 0, 0, &mut []), 101);
@@ -113,7 +118,7 @@ fn nothing_lent() {
 fn odd_addresses() {
     let bytes: Vec<u8> = (0..64).map(|i: u8| i.wrapping_mul(37)).collect();
     let copy = |from: usize| bytes[from..from + 24].to_vec();
-    for (from, method) in (0..8).flat_map(|from| (0..4).map(move |method| (from, method))) {
+    for (from, method) in (0..8).flat_map(|from| (0..METHODS).map(move |method| (from, method))) {
         let mut list = [0; 8];
         let (text, pattern) = (&bytes[from..from + 24], &bytes[from + 5..from + 8]);
         let at_odd = (search(text, 190, pattern, 20, [method, 0, ALL], &mut list), list);
@@ -137,21 +142,23 @@ fn lengths_of_64_bits() {
     assert_eq!(ffi::list_read(&long, &mut [0], &mut answer), 13);
 }
 
-/// The largest text: 2^30 bits, with the pattern at its last place only.
+/// The largest text: 2^30 bits, with the longest pattern that a method takes at its last place only.
 #[test]
 fn largest_text() {
     let mut text = vec![0; 1 << 27];
-    text[(1 << 27) - 256..].fill(0xff);
-    let (n, m) = (1 << 30, 2_048);
-    for method in 0..4 {
+    let (n, ones) = (1 << 30, [0xff; 256]);
+    for method in 0..METHODS {
+        let m = *pattern_bits(method).end() as u64;
+        text[(1 << 27) - 256..].fill(0);
+        text[((n - m) / 8) as usize..].fill(0xff);
         let mut list = [7; 2];
-        let (said, [_, places, mark, stop]) = search(&text, n, &[0xff; 256], m, [method, 0, ALL], &mut list);
+        let (said, [_, places, mark, stop]) = search(&text, n, &ones, m, [method, 0, ALL], &mut list);
         assert_eq!((said, places, mark, stop, list), (0, 1, n - m + 1, 0, [(n - m) as u32, 7]));
         let from = (n - m) as u32;
-        assert_eq!(search(&text, n, &[0xff; 256], m, [method, from, ALL], &mut []).1, [1, 0, n - m, 1]);
-        assert_eq!(search(&text, n, &[0xff; 256], m, [method, from + 2, ALL], &mut []).0, 6);
+        assert_eq!(search(&text, n, &ones, m, [method, from, ALL], &mut []).1, [1, 0, n - m, 1]);
+        assert_eq!(search(&text, n, &ones, m, [method, from + 2, ALL], &mut []).0, 6);
     }
-    assert_eq!(search(&text, n + 1, &[0xff; 256], m, [0, 0, ALL], &mut []).0, 1);
+    assert_eq!(search(&text, n + 1, &ones, 64, [0, 0, ALL], &mut []).0, 1);
     let mut answer = [0];
     assert_eq!((ffi::eight_bits(&text, n, (1 << 30) - 8, &mut answer), answer), (0, [0xff]));
     assert_eq!(ffi::eight_bits(&text, n, (1 << 30) - 7, &mut answer), 6);

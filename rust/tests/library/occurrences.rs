@@ -1,13 +1,13 @@
 //! The iterator over all occurrences.
 use crate::random::Random;
-use crate::rules::{shortest, Pair};
+use crate::rules::{takes, Pair};
 use mitongory::{Bits, Mark, Method, Occurrences, Pattern, Progress, Refusal, Text};
 
 /// A drawn text, and a pattern out of it or after its end.
 fn drawn(random: &Random, most: usize) -> Pair {
     let ones = random.one_of(&[0, 1, 2, 10]);
     let t: Vec<bool> = (0..random.below(most)).map(|_| random.below(20) < ones).collect();
-    let m = random.one_of(&[1, 2, 3, 8, 15, 20, 100]);
+    let m = random.one_of(&[1, 2, 3, 8, 15, 20, 64, 65, 100]);
     let from = random.below(t.len() + 1);
     let w = (0..m).map(|j| t.get(from + j).copied().unwrap_or(false)).collect();
     Pair { t, w }
@@ -36,8 +36,8 @@ fn are_those_of_the_rules() {
                     assert_eq!(occurrences.collect::<Vec<u32>>(), want, "{method}");
                 }
                 Err(refusal) => {
-                    assert_eq!(refusal, Refusal::PatternTooShort);
-                    assert!(pair.w.len() < shortest(method as u32));
+                    assert_eq!(refusal, Refusal::PatternUnfit);
+                    assert!(!takes(method as u32, pair.w.len()));
                 }
             }
         }
@@ -77,8 +77,8 @@ fn within_budgets() {
         let (text, pattern) = packed(&pair);
         let (text, pattern) = (text.text().unwrap(), pattern.pattern().unwrap());
         let want = pair.occurrences();
-        let takes = |method: &Method| shortest(*method as u32) <= pair.w.len();
-        let methods: Vec<Method> = Method::ALL.iter().copied().filter(takes).collect();
+        let fits = |method: &Method| takes(*method as u32, pair.w.len());
+        let methods: Vec<Method> = Method::ALL.iter().copied().filter(fits).collect();
         let mut occurrences = Occurrences::new(text, pattern, random.one_of(&methods)).unwrap();
         let mut given = Vec::new();
         loop {

@@ -40,9 +40,11 @@ fn marks(text: &str, pattern: &str, method: Method) -> Vec<u32> {
 fn first_paper() {
     assert_eq!(found(R1, V1, Method::Plain, 64), Ok((27, vec![11], 27, Stop::Done)));
     assert_eq!(found(R1, V1, Method::Hash, 64), Ok((5, vec![11], 27, Stop::Done)));
-    assert_eq!(found(R1, V1, Method::Skip, 64), Err(Refusal::PatternTooShort));
+    assert_eq!(found(R1, V1, Method::Skip, 64), Err(Refusal::PatternUnfit));
     assert_eq!(found(R1, V1, Method::Wide, 64), Ok((1, vec![11], 27, Stop::Done)));
+    assert_eq!(found(R1, V1, Method::Tail, 64), Ok((5, vec![11], 27, Stop::Done)));
     assert_eq!(marks(R1, V1, Method::Hash), [0, 7, 11, 17, 26, 27]);
+    assert_eq!(marks(R1, V1, Method::Tail), [0, 7, 11, 17, 26, 27]);
 }
 
 #[test]
@@ -51,7 +53,8 @@ fn second_paper() {
         assert_eq!(found(R2, V2, method, 64).unwrap().1, [0, 6, 12]);
     }
     assert_eq!(marks(R2, V2, Method::Skip), [0, 9, 13]);
-    for (method, steps) in [(Method::Plain, 7), (Method::Hash, 2), (Method::Wide, 1)] {
+    assert_eq!(marks(R2, V2, Method::Tail), [0, 6, 12, 13]);
+    for (method, steps) in [(Method::Plain, 7), (Method::Hash, 2), (Method::Wide, 1), (Method::Tail, 2)] {
         assert_eq!(found(R2, V2, method, 1), Ok((steps, vec![0], 6, Stop::Full(6))));
     }
 }
@@ -72,6 +75,24 @@ fn short_papers() {
     assert_eq!(found("11111", "111", Method::Plain, 4).unwrap().1, [0, 1, 2]);
     assert_eq!(found("11111", "111", Method::Wide, 3), Ok((1, vec![0, 1, 2], 3, Stop::Done)));
     assert_eq!(marks(&"0".repeat(200), "1", Method::Wide), [0, 65, 130, 195, 200]);
+    assert_eq!(found("11111", "111", Method::Tail, 3), Ok((3, vec![0, 1, 2], 3, Stop::Done)));
+    assert_eq!(marks("11111", "111", Method::Tail), [0, 1, 2, 3]);
+}
+
+/// The window 1001 ends in 001, which begins the pattern but does not end it: tail moves by one place only.
+#[test]
+fn a_beginning_of_the_pattern() {
+    assert_eq!(found("10010011", "0011", Method::Tail, 1), Ok((3, vec![4], 5, Stop::Done)));
+    assert_eq!(marks("10010011", "0011", Method::Tail), [0, 1, 4, 5]);
+}
+
+/// Tail with its longest pattern, one bit more, and its shortest.
+#[test]
+fn longest_pattern_of_tail() {
+    let ones = |count| "1".repeat(count);
+    assert_eq!(found(&ones(66), &ones(64), Method::Tail, 3), Ok((3, vec![0, 1, 2], 3, Stop::Done)));
+    assert_eq!(found(&ones(66), &ones(65), Method::Tail, 3), Err(Refusal::PatternUnfit));
+    assert_eq!(found("101", "1", Method::Tail, 3), Ok((3, vec![0, 2], 3, Stop::Done)));
 }
 
 #[test]

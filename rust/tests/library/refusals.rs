@@ -40,7 +40,10 @@ fn search_calls() {
     assert_eq!(number(36, 7, Method::Hash, 0), Err(5));
     assert_eq!(number(36, 14, Method::Skip, 0), Err(5));
     assert_eq!(number(36, 14, Method::Skip, 99), Err(5));
-    for method in [Method::Plain, Method::Hash, Method::Wide] {
+    assert_eq!(number(72, 65, Method::Tail, 0), Err(5));
+    assert_eq!(number(72, 65, Method::Tail, 99), Err(5));
+    assert_eq!(number(72, 2_048, Method::Tail, 0), Err(5));
+    for method in [Method::Plain, Method::Hash, Method::Wide, Method::Tail] {
         assert_eq!(number(36, 10, method, 28), Err(6));
         assert_eq!(number(36, 10, method, u32::MAX), Err(6));
         assert_eq!(number(36, 10, method, 27), Ok(Stop::Done));
@@ -49,9 +52,12 @@ fn search_calls() {
     }
     assert!(number(36, 8, Method::Hash, 0).is_ok());
     assert!(number(36, 15, Method::Skip, 0).is_ok());
+    assert!(number(36, 1, Method::Tail, 0).is_ok());
     for &method in Method::ALL {
-        assert_eq!(number(2_047, 2_048, method, 0), Ok(Stop::Done));
-        assert_eq!(number(2_048, 2_048, method, 0), Ok(Stop::Full(0)));
+        let longest = if method == Method::Tail { 64 } else { 2_048 };
+        assert_eq!(number(longest - 1, longest, method, 0), Ok(Stop::Done));
+        assert_eq!(number(longest, longest, method, 0), Ok(Stop::Full(0)));
+        assert_eq!(number(longest, longest, method, 2), Err(6));
     }
     // A scratch of another length than the crate's own needs the raw call.
     let raw = |scratch: usize| {
@@ -59,6 +65,11 @@ fn search_calls() {
         ffi::search(&[0; 5], 36, &[0; 2], 10, 0, 0, 1, &mut [], &mut cells, &mut [0; 4])
     };
     assert_eq!((raw(4_223), raw(0), raw(4_224), raw(5_000)), (7, 7, 0, 0));
+    // A pattern of 65 bits by tail: after its bytes, before the mark and the scratch.
+    let raw = |m, bytes: usize, mark| {
+        ffi::search(&[0; 9], 72, &[0; 9][..bytes], m, 4, mark, 1, &mut [], &mut [0; 4_223], &mut [0; 4])
+    };
+    assert_eq!((raw(65, 8, 99), raw(65, 9, 99), raw(65, 9, 0), raw(64, 9, 99), raw(64, 8, 0)), (4, 5, 5, 6, 7));
 }
 
 #[test]
@@ -103,5 +114,5 @@ fn numbers_and_messages() {
     for &method in Method::ALL {
         assert_eq!(method.to_string().parse(), Ok(method));
     }
-    assert!(["", "Plain", "plain ", "tail"].iter().all(|name| name.parse::<Method>().is_err()));
+    assert!(["", "Plain", "plain ", "twin"].iter().all(|name| name.parse::<Method>().is_err()));
 }

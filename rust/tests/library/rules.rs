@@ -1,4 +1,5 @@
 //! The search rules, bit by bit and as they are written: nothing here is made for speed or shares code with the crate.
+use std::ops::RangeInclusive;
 
 /// The bits of a packed run, in order.
 pub fn bits(bytes: &[u8], count: usize) -> Vec<bool> {
@@ -24,14 +25,23 @@ pub const PLAIN: u32 = 0;
 pub const HASH: u32 = 1;
 pub const SKIP: u32 = 2;
 pub const WIDE: u32 = 3;
+pub const TAIL: u32 = 4;
+/// How many methods there are.
+pub const METHODS: u32 = 5;
 
-/// The fewest bits that a method takes.
-pub fn shortest(method: u32) -> usize {
+/// The fewest and the most bits of a pattern that a method takes.
+pub fn pattern_bits(method: u32) -> RangeInclusive<usize> {
     match method {
-        HASH => 8,
-        SKIP => 15,
-        _ => 1,
+        HASH => 8..=2_048,
+        SKIP => 15..=2_048,
+        TAIL => 1..=64,
+        _ => 1..=2_048,
     }
+}
+
+/// A method takes patterns of m bits.
+pub fn takes(method: u32, m: usize) -> bool {
+    pattern_bits(method).contains(&m)
 }
 
 /// The least d from `from` on at which the pattern agrees with eight bits that end its window.
@@ -92,6 +102,11 @@ impl Pair {
                 let b = (s + m) / 8 - 1;
                 let shows = |a: &usize| (0..8).all(|j| w[8 * b - a + j] == t[8 * b + j]);
                 ((s..=8 * b).filter(|&a| a < end).filter(shows).collect(), 8 * b + 1)
+            }
+            TAIL => {
+                let ends = |r: &usize| (0..*r).all(|j| w[j] == t[s + m - r + j]);
+                let r = (0..m).rev().find(ends).expect("r = 0 always is one");
+                (vec![s], s + m - r)
             }
             _ => {
                 let stands = |i: &usize| (0..m).all(|k| s + i + k >= n || t[s + i + k] == w[k]);

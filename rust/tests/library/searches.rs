@@ -1,7 +1,7 @@
 //! Search calls against the rules: every answer, list, scratch and refusal.
 use crate::buffers::Lent;
 use crate::random::{Draw, Random};
-use crate::rules::{bits, shortest, Pair, PLAIN, WIDE};
+use crate::rules::{bits, takes, Pair, METHODS, PLAIN, TAIL, WIDE};
 use mitongory::{ffi, search, Bits, Mark, Method, Pattern, Scratch, Stop, Text, SCRATCH_CELLS};
 
 /// The buffers of many calls, and how many calls there were.
@@ -88,7 +88,7 @@ fn every_short_text() {
             let pair = Pair { t: bits(&text, n), w: bits(&pattern, m) };
             for mark in 0..=pair.places() as u32 {
                 for (budget, cells) in [0, 1, 2, u32::MAX].into_iter().flat_map(|b| [0, 1, 2, 8].map(|c| (b, c))) {
-                    for method in [PLAIN, WIDE] {
+                    for method in [PLAIN, WIDE, TAIL] {
                         let r = Request { method, mark, budget, cells, scratch: SCRATCH_CELLS, answer: 4 };
                         caller.check(&text, &pattern, &pair, r);
                     }
@@ -97,7 +97,7 @@ fn every_short_text() {
         }
     }
     println!("every_short_text: {} calls", caller.calls);
-    assert!(caller.calls > 400_000);
+    assert!(caller.calls > 600_000);
 }
 
 /// A text and a pattern of it or near it. Bytes after the last bit and bits after the count have any content.
@@ -163,7 +163,7 @@ impl Caller {
     fn check_drawn(&mut self, random: &Random, n: usize, m: usize, most: usize) {
         let x = drawn(random, n, m);
         self.redraw(random);
-        for method in (0..4).filter(|&method| shortest(method) <= m) {
+        for method in (0..METHODS).filter(|&method| takes(method, m)) {
             for _ in 0..6 {
                 let r = request(random, &x.pair, method, most);
                 self.check(&x.text, &x.pattern, &x.pair, r);
@@ -206,7 +206,7 @@ fn joined_lists() {
     let random = Random::of("joined_lists");
     let (mut scratch, mut list, mut calls) = (Scratch::new(), [0; 16], 0);
     for _ in 0..3_000 {
-        let m = random.one_of(&[1, 3, 8, 15, 33, 70]);
+        let m = random.one_of(&[1, 3, 8, 15, 33, 64, 70]);
         let n = random.below(700);
         let x = drawn(&random, n, m);
         let text = Text::new(&x.text, n as u64).unwrap();
@@ -218,7 +218,7 @@ fn joined_lists() {
             let cells = random.below(list.len() + 1);
             calls += 1;
             let Ok(answer) = search(text, pattern, method, mark, budget, &mut list[..cells], &mut scratch) else {
-                assert!(m < shortest(method as u32));
+                assert!(!takes(method as u32, m));
                 continue;
             };
             joined.extend(&list[..answer.occurrences]);
@@ -243,13 +243,13 @@ fn joined_lists() {
 fn refusal(text: &[u8], n: u64, pattern: &[u8], m: u64, r: Request) -> u32 {
     let places = if m <= n { n.wrapping_sub(m).wrapping_add(1) } else { 0 };
     let rows = [
-        (100, r.method > 3),
+        (100, r.method > 4),
         (101, r.answer < 4),
         (1, n > 1 << 30),
         (2, (text.len() as u64) < n.div_ceil(8)),
         (3, m == 0 || m > 2_048),
         (4, (pattern.len() as u64) < m.div_ceil(8)),
-        (5, m < shortest(r.method) as u64),
+        (5, !takes(r.method, m as usize)),
         (6, u64::from(r.mark) > places),
         (7, r.scratch < 4_224),
     ];
@@ -267,7 +267,7 @@ fn refusals_in_order() {
         // Each value is good most of the time, so that the late rows are reached too.
         let good = |random: &Random| !random.once_in(6);
         let m = if good(&random) { 1 + random.below(40) as u64 } else { 1 << random.below(64) };
-        let m = random.one_of(&[m, m, m, 0, 7, 8, 14, 15, 2_048, 2_049, u64::MAX]);
+        let m = random.one_of(&[m, m, m, m, 0, 7, 8, 14, 15, 64, 65, 2_048, 2_049, u64::MAX]);
         let n = if good(&random) { random.below(64) as u64 } else { 1 << random.below(64) };
         let n = random.one_of(&[n, n, n, n, 0, (1 << 30) + 1, (1 << 32) + 9, u64::MAX]);
         let enough = |random: &Random, count: u64| {
@@ -283,7 +283,7 @@ fn refusals_in_order() {
         let places = if m <= n { n.wrapping_sub(m).wrapping_add(1) } else { 0 };
         let near = places.wrapping_add(random.below(3) as u64).wrapping_sub(1) as u32;
         let r = Request {
-            method: random.one_of(&[0, 1, 2, 3, 0, 1, 2, 3, 0, 1, 2, 3, 4, 256, 1 << 16, 1 << 31, u32::MAX]),
+            method: random.one_of(&[0, 1, 2, 3, 4, 0, 1, 2, 3, 4, 0, 1, 2, 3, 4, 5, 256, 1 << 16, 1 << 31, u32::MAX]),
             mark: random.one_of(&[0, 0, near, near, 1 << random.below(32), u32::MAX]),
             budget: random.one_of(&[0, 1, u32::MAX]),
             cells: random.below(64),

@@ -35,13 +35,14 @@ static size_t every_place(const uint8_t *text, uint64_t n, const uint8_t *patter
 /* One search for all places, and its expected places. */
 static void one_search(const struct search *q, enum side side, const uint32_t *places, size_t count)
 {
-    const int too_short = (q->method == MITONGORY_HASH && q->m < LEAST_M_HASH) ||
-                          (q->method == MITONGORY_SKIP && q->m < LEAST_M_SKIP);
+    const int unfit = (q->method == MITONGORY_HASH && q->m < LEAST_M_HASH) ||
+                      (q->method == MITONGORY_SKIP && q->m < LEAST_M_SKIP) ||
+                      (q->method == MITONGORY_TAIL && q->m > MOST_M_TAIL);
     const uint64_t all = q->m <= q->n ? q->n - q->m + 1 : 0, *told;
     struct search_buffers b;
     uint32_t result = search_on(q, side, &b);
     about("drawn input");
-    check(result == (too_short ? MITONGORY_PATTERN_TOO_SHORT : MITONGORY_OK), "result");
+    check(result == (unfit ? MITONGORY_PATTERN_UNFIT : MITONGORY_OK), "result");
     if (result == MITONGORY_OK) {
         told = at(&b.answer);
         check(holds(&b.list, places, count * sizeof *places), "places");
@@ -85,7 +86,7 @@ static void one_round(uint32_t round)
     q.pattern = pattern;
     q.pattern_len = (size_t)(q.m + 7) / 8;
     q.list_len = count + round % 3;
-    for (q.method = MITONGORY_PLAIN; q.method <= MITONGORY_WIDE; q.method++)
+    for (q.method = MITONGORY_PLAIN; q.method <= MITONGORY_TAIL; q.method++)
         one_search(&q, round % 2 == 0 ? AT_START : AT_END, places, count);
 }
 

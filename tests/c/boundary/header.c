@@ -13,7 +13,7 @@ static const uint32_t results[] = {
     MITONGORY_TEXT_BYTES_MISSING,
     MITONGORY_PATTERN_LENGTH,
     MITONGORY_PATTERN_BYTES_MISSING,
-    MITONGORY_PATTERN_TOO_SHORT,
+    MITONGORY_PATTERN_UNFIT,
     MITONGORY_BEYOND_END,
     MITONGORY_SCRATCH_TOO_SHORT,
     MITONGORY_LIST_NOT_RISING,
@@ -32,9 +32,9 @@ static void version(void)
 {
     char text[40];
     about("version");
-    check(MITONGORY_VERSION_NUMBER == 200, "number of the header");
+    check(MITONGORY_VERSION_NUMBER == 300, "number of the header");
     check(mitongory_version() == MITONGORY_VERSION_NUMBER, "number of the library");
-    check(mitongory_version_0_2() == mitongory_version(), "the two functions");
+    check(mitongory_version_0_3() == mitongory_version(), "the two functions");
     snprintf(text, sizeof text, "%d.%d.%d", MITONGORY_VERSION_MAJOR, MITONGORY_VERSION_MINOR, MITONGORY_VERSION_PATCH);
     check(strcmp(text, MITONGORY_VERSION) == 0, "text");
 }

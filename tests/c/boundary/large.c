@@ -50,6 +50,10 @@ static void largest_text(void)
     check(search_largest(text, MITONGORY_WIDE, 0) == MITONGORY_OK, "result");
     check(answer_is(1, LARGEST_N), "answer");
     check(list[0] == LARGEST_N - 1 && list[1] == untouched, "list");
+    list[0] = untouched;
+    check(search_largest(text, MITONGORY_TAIL, LARGEST_N - 99) == MITONGORY_OK, "result of tail");
+    check(answer[MITONGORY_STEPS] == 99 && answer_is(1, LARGEST_N), "answer of tail");
+    check(list[0] == LARGEST_N - 1 && list[1] == untouched, "list of tail");
     check(search_largest(text, MITONGORY_PLAIN, LARGEST_N) == MITONGORY_OK, "from the largest mark");
     check(answer[MITONGORY_STEPS] == 0 && answer_is(0, LARGEST_N), "answer there");
     check(search_largest(text, MITONGORY_PLAIN, LARGEST_N + 1) == MITONGORY_BEYOND_END, "after it");

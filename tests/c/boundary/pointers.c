@@ -18,7 +18,7 @@ static void empty_buffers(const char *name, void *nowhere)
     const uint64_t m = 8;
     about(name);
     check(SEARCH(0, MITONGORY_PLAIN, nowhere, 0) == MITONGORY_ANSWER_CELLS_MISSING, "search");
-    check(SEARCH(0, MITONGORY_WIDE + 1, nowhere, 0) == MITONGORY_UNKNOWN_METHOD, "search by method 4");
+    check(SEARCH(0, MITONGORY_TAIL + 1, nowhere, 0) == MITONGORY_UNKNOWN_METHOD, "search by method 5");
     check(SEARCH(0, MITONGORY_PLAIN, answer, 4) == MITONGORY_PATTERN_LENGTH, "search for no bits");
     check(SEARCH(1, MITONGORY_PLAIN, answer, 4) == MITONGORY_PATTERN_BYTES_MISSING, "search for one bit");
     check(mitongory_hash_value(nowhere, 0, m, 0, nowhere, 0) == MITONGORY_ANSWER_CELLS_MISSING, "hash value");

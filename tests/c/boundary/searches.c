@@ -9,7 +9,7 @@
 
 enum { MORE_BYTES = 20, MORE_SCRATCH = 600, MORE_ANSWER = 5 };
 
-static const uint32_t no_method = MITONGORY_WIDE + 1;
+static const uint32_t no_method = MITONGORY_TAIL + 1;
 
 /* Paper 1, and then with more bytes than its bits take. */
 static void first_paper(uint32_t method, uint32_t steps)
@@ -59,11 +59,11 @@ static void second_paper(uint32_t method, uint32_t steps_to_full)
     accepted("an empty text", q, 0, 0, 0, MITONGORY_DONE, NULL);
 }
 
-/* The pattern 111 in 11111, whatever the bits after the text's last are. */
-static void ones(void)
+/* The pattern 111 in 11111, whatever the bits after the text's last are. Plain and tail move by one place. */
+static void ones(uint32_t method)
 {
     static const uint32_t places[] = {0, 1, 2};
-    struct search q = paper1(MITONGORY_PLAIN);
+    struct search q = paper1(method);
     q.text = "\xf8";
     q.text_len = 1;
     q.n = 5;
@@ -73,6 +73,31 @@ static void ones(void)
     accepted("occurrences that overlap", q, 3, 3, 3, MITONGORY_DONE, places);
     q.text = "\xff";
     accepted("bits after the last one", q, 3, 3, 3, MITONGORY_DONE, places);
+}
+
+/*
+ * The pattern 0011 in 10010011 by tail. The first window, 1001, ends in 001, which begins the pattern but does not end
+ * it: the mark moves by one place only.
+ */
+static void beginning_of_the_pattern(void)
+{
+    static const uint32_t places[] = {4};
+    struct search q = paper1(MITONGORY_TAIL);
+    q.text = "\x93";
+    q.text_len = 1;
+    q.n = 8;
+    q.pattern = "\x30";
+    q.pattern_len = 1;
+    q.m = 4;
+    accepted("0011 in 10010011", q, 3, 1, 5, MITONGORY_DONE, places);
+    q.budget = 1;
+    accepted("its first step", q, 1, 0, 1, MITONGORY_SPENT, NULL);
+    q.mark = 1;
+    accepted("its second step", q, 1, 0, 4, MITONGORY_SPENT, NULL);
+    q.mark = 4;
+    accepted("its third step", q, 1, 1, 5, MITONGORY_DONE, places);
+    q.list_len = 0;
+    accepted("its third step with no cell", q, 1, 0, 4, MITONGORY_FULL, NULL);
 }
 
 static void refused_n(const char *name, struct search q, uint64_t n, uint32_t refusal)
@@ -125,8 +150,8 @@ static void refused_by_every_method(uint32_t method)
     q.pattern_len = LARGEST_M / 8 - 1;
     refused_m("m = 2048 with 255 bytes", q, LARGEST_M, MITONGORY_PATTERN_BYTES_MISSING);
     q.pattern_len = LARGEST_M / 8;
-    q.m = LARGEST_M;
-    accepted("m = 2048", q, 0, 0, 0, MITONGORY_DONE, NULL);
+    q.m = method == MITONGORY_TAIL ? MOST_M_TAIL : LARGEST_M;
+    accepted("the largest m that the method takes", q, 0, 0, 0, MITONGORY_DONE, NULL);
 
     refused_mark("a mark after the end", good, PAPER2_PLACES + 1);
     refused_mark("the largest mark", good, UINT32_MAX);
@@ -139,11 +164,48 @@ static void refused_by_every_method(uint32_t method)
 
 static void refused_for_a_method(void)
 {
-    refused_m("hash, m = 7", paper1(MITONGORY_HASH), LEAST_M_HASH - 1, MITONGORY_PATTERN_TOO_SHORT);
-    refused_m("skip, m = 14", paper2(MITONGORY_SKIP), LEAST_M_SKIP - 1, MITONGORY_PATTERN_TOO_SHORT);
-    refused("paper 1 by skip", paper1(MITONGORY_SKIP), MITONGORY_PATTERN_TOO_SHORT);
+    refused_m("hash, m = 7", paper1(MITONGORY_HASH), LEAST_M_HASH - 1, MITONGORY_PATTERN_UNFIT);
+    refused_m("skip, m = 14", paper2(MITONGORY_SKIP), LEAST_M_SKIP - 1, MITONGORY_PATTERN_UNFIT);
+    refused("paper 1 by skip", paper1(MITONGORY_SKIP), MITONGORY_PATTERN_UNFIT);
     refused_mark("the mark 28 of document 01", paper1(MITONGORY_PLAIN), PAPER1_PLACES + 1);
-    refused("a good call by method 4", paper2(no_method), MITONGORY_UNKNOWN_METHOD);
+    refused("a good call by method 5", paper2(no_method), MITONGORY_UNKNOWN_METHOD);
+}
+
+/* Tail on zeros: its largest m and its least, one bit more, and where the refusal for that stands among the others. */
+static void longest_by_tail(void)
+{
+    static const uint8_t zeros[LARGEST_M / 8];
+    static const uint32_t places[] = {0, 1, 2};
+    struct search q = paper1(MITONGORY_TAIL);
+    q.text = q.pattern = zeros;
+    q.n = MOST_M_TAIL + 2;
+    q.text_len = q.pattern_len = MOST_M_TAIL / 8 + 1;
+    q.m = MOST_M_TAIL;
+    accepted("tail, m = 64", q, 3, 3, 3, MITONGORY_DONE, places);
+    q.n = 3;
+    q.m = 1;
+    accepted("tail, m = 1", q, 3, 3, 3, MITONGORY_DONE, places);
+    q.n = MOST_M_TAIL + 2;
+    refused_m("tail, m = 65", q, MOST_M_TAIL + 1, MITONGORY_PATTERN_UNFIT);
+    q.pattern_len = LARGEST_M / 8;
+    refused_m("tail, m = 2048", q, LARGEST_M, MITONGORY_PATTERN_UNFIT);
+
+    q.m = MOST_M_TAIL + 1;
+    q.pattern_len = MOST_M_TAIL / 8;
+    q.mark = UINT32_MAX;
+    q.scratch_len = 0;
+    refused("tail, m = 65: first the pattern bytes", q, MITONGORY_PATTERN_BYTES_MISSING);
+    q.pattern_len++;
+    refused("tail, m = 65: then the pattern's length", q, MITONGORY_PATTERN_UNFIT);
+    q.mark = 0;
+    refused("tail, m = 65: before the scratch", q, MITONGORY_PATTERN_UNFIT);
+    q.m = MOST_M_TAIL;
+    q.mark = 4;
+    refused("tail, m = 64: then the mark", q, MITONGORY_BEYOND_END);
+    q.mark = 3;
+    refused("tail, m = 64: then the scratch", q, MITONGORY_SCRATCH_TOO_SHORT);
+    q.scratch_len = MITONGORY_SCRATCH_CELLS;
+    accepted("tail, m = 64: and then it is accepted", q, 0, 0, 3, MITONGORY_DONE, NULL);
 }
 
 /* Everything is wrong at first; then one thing after the other is put right, in the order of the refusals. */
@@ -156,7 +218,7 @@ static void order_of_refusals(void)
     q.mark = UINT32_MAX;
     q.scratch_len = 0;
     q.answer_len = MITONGORY_ANSWER_CELLS - 1;
-    refused("method 4", q, MITONGORY_UNKNOWN_METHOD);
+    refused("method 5", q, MITONGORY_UNKNOWN_METHOD);
     q.method = 256;
     refused("method 256", q, MITONGORY_UNKNOWN_METHOD);
     q.method = UINT32_MAX;
@@ -172,7 +234,7 @@ static void order_of_refusals(void)
     q.m = PAPER1_M;
     refused("then the pattern bytes", q, MITONGORY_PATTERN_BYTES_MISSING);
     q.pattern_len = PAPER1_PATTERN_BYTES;
-    refused("then the pattern's length for the method", q, MITONGORY_PATTERN_TOO_SHORT);
+    refused("then the pattern's length for the method", q, MITONGORY_PATTERN_UNFIT);
     q.method = MITONGORY_HASH;
     refused("then the mark", q, MITONGORY_BEYOND_END);
     q.mark = PAPER1_PLACES;
@@ -183,16 +245,20 @@ static void order_of_refusals(void)
 
 void searches(void)
 {
-    static const uint32_t steps_to_full[] = {7, 2, 1, 1};
+    static const uint32_t steps_to_full[] = {7, 2, 1, 1, 2};
     uint32_t method;
     first_paper(MITONGORY_PLAIN, 27);
     first_paper(MITONGORY_HASH, 5);
     first_paper(MITONGORY_WIDE, 1);
-    for (method = MITONGORY_PLAIN; method <= MITONGORY_WIDE; method++) {
+    first_paper(MITONGORY_TAIL, 5);
+    for (method = MITONGORY_PLAIN; method <= MITONGORY_TAIL; method++) {
         second_paper(method, steps_to_full[method]);
         refused_by_every_method(method);
     }
-    ones();
+    ones(MITONGORY_PLAIN);
+    ones(MITONGORY_TAIL);
+    beginning_of_the_pattern();
     refused_for_a_method();
+    longest_by_tail();
     order_of_refusals();
 }

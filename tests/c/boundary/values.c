@@ -36,7 +36,7 @@ static void hash_values(void)
     hash_value("the largest m", v2, 3, UINT64_MAX, 0xff, 1, MITONGORY_PATTERN_LENGTH, 0);
     hash_value("one byte too few", v2, 2, 17, 0, 1, MITONGORY_PATTERN_BYTES_MISSING, 0);
     hash_value("no bytes", NULL, 0, LEAST_M_HASH - 1, 0, 1, MITONGORY_PATTERN_BYTES_MISSING, 0);
-    hash_value("m = 7", v2, 3, LEAST_M_HASH - 1, 0, 1, MITONGORY_PATTERN_TOO_SHORT, 0);
+    hash_value("m = 7", v2, 3, LEAST_M_HASH - 1, 0, 1, MITONGORY_PATTERN_UNFIT, 0);
     hash_value("no answer cell", v2, 3, PAPER2_M, 0x65, 0, MITONGORY_ANSWER_CELLS_MISSING, 0);
     hash_value("no answer cell, and m = 0", v2, 3, 0, 0x65, 0, MITONGORY_ANSWER_CELLS_MISSING, 0);
 }

@@ -29,6 +29,12 @@ enum-told-4 c = search needs
 advance-requires-4 : tie.Need-advance-requires-4
 advance-requires-4 c κs = ready-as (c .before .enum-told4 .given .1) (c .before .before .before .before .before .before .before .pre)
 
+enum-told-5 : tie.Need-enum-told-5
+enum-told-5 c = search needs
+
+advance-requires-5 : tie.Need-advance-requires-5
+advance-requires-5 c κs = ready-as (c .before .enum-told5 .given .1) (c .before .before .before .before .before .before .before .pre)
+
 same-length : tie.Need-same-length
 same-length c = search needs
 
@@ -53,6 +59,12 @@ same-length-4 c = search needs
 returns-4 : tie.Need-returns-4
 returns-4 c = rw (c .before .before .before .before .enum-told4 .given .1) (c .before .before .advance4 .ensures)
 
+same-length-5 : tie.Need-same-length-5
+same-length-5 c = search needs
+
+returns-5 : tie.Need-returns-5
+returns-5 c = rw (c .before .before .before .before .enum-told5 .given .1) (c .before .before .advance5 .ensures)
+
 pub advance-spec : {M : Type 1} → statement M
 advance-spec =
     tie.close
@@ -65,6 +77,8 @@ advance-spec =
     advance-requires-3
     enum-told-4
     advance-requires-4
+    enum-told-5
+    advance-requires-5
     same-length
     returns
     same-length-2
@@ -72,4 +86,6 @@ advance-spec =
     same-length-3
     returns-3
     same-length-4
-    returns-4)
+    returns-4
+    same-length-5
+    returns-5)

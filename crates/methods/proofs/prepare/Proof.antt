@@ -40,6 +40,15 @@ prepare-requires-4 c κs =
     let e = c .before .enum-told4 .given .1 in
     (rw e at (s .pre .0), rw e at (s .pre .1))
 
+enum-told-5 : tie.Need-enum-told-5
+enum-told-5 c = search needs
+
+prepare-requires-5 : tie.Need-prepare-requires-5
+prepare-requires-5 c κs =
+    let s = c .before .before .before .before .before in
+    let e = c .before .enum-told5 .given .1 in
+    (rw e at (s .pre .0), rw e at (s .pre .1))
+
 same-length : tie.Need-same-length
 same-length c = search needs
 
@@ -72,6 +81,14 @@ returns-4 c =
     let e = c .before .before .before .before .enum-told4 .given .1 in
     rw e (c .before .before .prepare4 .ensures)
 
+same-length-5 : tie.Need-same-length-5
+same-length-5 c = search needs
+
+returns-5 : tie.Need-returns-5
+returns-5 c =
+    let e = c .before .before .before .before .enum-told5 .given .1 in
+    rw e (c .before .before .prepare5 .ensures)
+
 pub prepare-spec : {M : Type 1} → statement M
 prepare-spec =
     tie.close
@@ -84,6 +101,8 @@ prepare-spec =
     prepare-requires-3
     enum-told-4
     prepare-requires-4
+    enum-told-5
+    prepare-requires-5
     same-length
     returns
     same-length-2
@@ -91,4 +110,6 @@ prepare-spec =
     same-length-3
     returns-3
     same-length-4
-    returns-4)
+    returns-4
+    same-length-5
+    returns-5)

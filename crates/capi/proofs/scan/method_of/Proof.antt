@@ -24,10 +24,14 @@ returns-4 c = rw (c .match .keys4) refl
 
 returns-5 : tie.Need-returns-5
 unfolding methodNamed
-returns-5 c =
+returns-5 c = rw (c .match .keys5) refl
+
+returns-6 : tie.Need-returns-6
+unfolding methodNamed
+returns-6 c =
     let k = c .before .args .k in
     let no = c .match .rest in
-    rw (ne-eqb k 0 (no .0 .0 .0 .1), ne-eqb k 1 (no .0 .0 .1), ne-eqb k 2 (no .0 .1), ne-eqb k 3 (no .1)) refl
+    rw (ne-eqb k 0 (no .0 .0 .0 .0 .1), ne-eqb k 1 (no .0 .0 .0 .1), ne-eqb k 2 (no .0 .0 .1), ne-eqb k 3 (no .0 .1), ne-eqb k 4 (no .1)) refl
 
 pub method-of-spec : {M : Type 1} → statement M
-method-of-spec = tie.close (tie.spec returns returns-2 returns-3 returns-4 returns-5)
+method-of-spec = tie.close (tie.spec returns returns-2 returns-3 returns-4 returns-5 returns-6)

@@ -53,8 +53,8 @@ array-share-prefix-text-bytes c = search needs
 slice-aggregate-text : tie.Need-slice-aggregate-text
 slice-aggregate-text c = search needs
 
-four-lines-requires : tie.Need-four-lines-requires
-four-lines-requires c κs = omega arith
+five-lines-requires : tie.Need-five-lines-requires
+five-lines-requires c κs = omega arith
 
 same-length : tie.Need-same-length
 same-length c = omega arith
@@ -64,7 +64,7 @@ returns c =
     let a = c .before .before .before .before .before .before .before .before .before .before .before .before .before .before .before .before .args in
     let pattern = c .before .before .before .before .before .before .before .before .before .before .before .pack in
     let text = c .before .before .before .before .before .before .before .pack2 in
-    let e = c .before .before .four-lines .ensures in
+    let e = c .before .before .five-lines .ensures in
     (puts-as (packed-printed (a .input .now) (a .m) (a .n) (omega arith) (pattern .ensures .is) (text .ensures .is)) (e .0), e .1)
 
 pub packed-lines-spec : {M : Type 1} → statement M
@@ -85,6 +85,6 @@ packed-lines-spec =
     slice-aggregate-pattern
     array-share-prefix-text-bytes
     slice-aggregate-text
-    four-lines-requires
+    five-lines-requires
     same-length
     returns)

@@ -45,15 +45,15 @@ returns-5 c =
     row-4 (asked (c .before .before .before .before .before .before .before .before .before .before))
     (c .before .before .before .before .before .before .if1 .left) (rw (c .before .before .before .before .before .bytes-for .ensures) at (c .before .before .before .before .if2 .left)) (c .before .before .before .if3 .left) (c .before .before .if4 .left) (rw (c .before .bytes-for2 .ensures) at (c .if5 .taken))
 
-too-short-requires : tie.Need-too-short-requires
-too-short-requires c κs = search needs
+does-not-fit-requires : tie.Need-does-not-fit-requires
+does-not-fit-requires c κs = search needs
 
 returns-6 : tie.Need-returns-6
 unfolding asked
 returns-6 c =
     row-5 (asked (c .before .before .before .before .before .before .before .before .before .before .before .before))
     (c .before .before .before .before .before .before .before .before .if1 .left) (rw (c .before .before .before .before .before .before .before .bytes-for .ensures) at (c .before .before .before .before .before .before .if2 .left)) (c .before .before .before .before .before .if3 .left) (c .before .before .before .before .if4 .left) (rw (c .before .before .before .bytes-for2 .ensures) at (c .before .before .if5 .left))
-    (sym (c .before .too-short .ensures) ∙ c .if6 .taken)
+    (sym (c .before .does-not-fit .ensures) ∙ c .if6 .taken)
 
 places-requires : tie.Need-places-requires
 places-requires c κs = search needs
@@ -66,7 +66,7 @@ unfolding asked
 returns-7 c =
     row-6 (asked (c .before .before .before .before .before .before .before .before .before .before .before .before .before .before .before))
     (c .before .before .before .before .before .before .before .before .before .before .before .if1 .left) (rw (c .before .before .before .before .before .before .before .before .before .before .bytes-for .ensures) at (c .before .before .before .before .before .before .before .before .before .if2 .left)) (c .before .before .before .before .before .before .before .before .if3 .left) (c .before .before .before .before .before .before .before .if4 .left) (rw (c .before .before .before .before .before .before .bytes-for2 .ensures) at (c .before .before .before .before .before .if5 .left))
-    (sym (c .before .before .before .before .too-short .ensures) ∙ c .before .before .before .if6 .left)
+    (sym (c .before .before .before .before .does-not-fit .ensures) ∙ c .before .before .before .if6 .left)
     (rw (c .before .before .places .ensures) at (c .if7 .taken))
 
 returns-8 : tie.Need-returns-8
@@ -74,7 +74,7 @@ unfolding asked
 returns-8 c =
     row-7 (asked (c .before .before .before .before .before .before .before .before .before .before .before .before .before .before .before .before))
     (c .before .before .before .before .before .before .before .before .before .before .before .before .if1 .left) (rw (c .before .before .before .before .before .before .before .before .before .before .before .bytes-for .ensures) at (c .before .before .before .before .before .before .before .before .before .before .if2 .left)) (c .before .before .before .before .before .before .before .before .before .if3 .left) (c .before .before .before .before .before .before .before .before .if4 .left) (rw (c .before .before .before .before .before .before .before .bytes-for2 .ensures) at (c .before .before .before .before .before .before .if5 .left))
-    (sym (c .before .before .before .before .before .too-short .ensures) ∙ c .before .before .before .before .if6 .left)
+    (sym (c .before .before .before .before .before .does-not-fit .ensures) ∙ c .before .before .before .before .if6 .left)
     (rw (c .before .before .before .places .ensures) at (c .before .if7 .left))
     (c .if8 .taken)
 
@@ -83,7 +83,7 @@ unfolding asked
 returns-9 c =
     no-row (asked (c .before .before .before .before .before .before .before .before .before .before .before .before .before .before .before .before))
     (c .before .before .before .before .before .before .before .before .before .before .before .before .if1 .left) (rw (c .before .before .before .before .before .before .before .before .before .before .before .bytes-for .ensures) at (c .before .before .before .before .before .before .before .before .before .before .if2 .left)) (c .before .before .before .before .before .before .before .before .before .if3 .left) (c .before .before .before .before .before .before .before .before .if4 .left) (rw (c .before .before .before .before .before .before .before .bytes-for2 .ensures) at (c .before .before .before .before .before .before .if5 .left))
-    (sym (c .before .before .before .before .before .too-short .ensures) ∙ c .before .before .before .before .if6 .left)
+    (sym (c .before .before .before .before .before .does-not-fit .ensures) ∙ c .before .before .before .before .if6 .left)
     (rw (c .before .before .before .places .ensures) at (c .before .if7 .left))
     (c .if8 .left)
 
@@ -98,7 +98,7 @@ check-spec =
     returns-4
     bytes-for-requires-2
     returns-5
-    too-short-requires
+    does-not-fit-requires
     returns-6
     places-requires
     cast-if7

@@ -1,0 +1,2 @@
+-- What the parts of the tail method promise each other.
+pub mod Lengths
