@@ -20,7 +20,8 @@ int main(int count, char **args) {
         known = 1, time_texts(number ? (int)number : 27);
     }
     if (all || !strcmp(mode, "hard")) {
-        printf("\n## Hard texts\n\nNanoseconds for each bit of texts of 2^19 bits on which little is ruled out early.\n");
+        printf("\n## Hard texts\n\nNanoseconds for each bit of texts of 2^19 bits on which little is ruled out early.\n"
+               "Patterns of 8, 20 and 32 bits are there for tail alone.\n");
         known = 1, time_hard();
     }
     if (all || !strcmp(mode, "short")) {

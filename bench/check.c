@@ -34,12 +34,13 @@ struct input {
     size_t n, m;
 };
 
-// A text and a pattern of it or near it, of 5 to 50 % ones.
+// A text and a pattern of it or near it, of 5 to 50 % ones. A quarter of the large ones have a pattern that every
+// method takes.
 static struct input input(uint8_t *text, uint8_t *pattern, int large, int front) {
     struct input x;
     size_t ones = 1 + below(10);
     x.n = below(large ? 6000 : 301);
-    x.m = 1 + below(large ? 2048 : below(3) ? 80 : 240);
+    x.m = !large ? 1 + below(below(3) ? 80 : 240) : below(4) ? 1 + below(2048) : 15 + below(50);
     x.t = lent(text, (x.n + 7) / 8, front);
     x.w = lent(pattern, (x.m + 7) / 8, front);
     for (size_t i = 0; i < (x.n + 7) / 8 * 8; i++) set_bit(x.t, i, below(20) < ones);
@@ -56,7 +57,13 @@ static struct input input(uint8_t *text, uint8_t *pattern, int large, int front)
 
 // The cells that a method's tables may take.
 static size_t figure(int method, size_t m) {
-    return method == PLAIN ? 16 * ((m + 14) / 8) : method == HASH ? 256 : method == SKIP ? 256 + m : 2 * (63 + m);
+    switch (method) {
+    case PLAIN: return 16 * ((m + 14) / 8);
+    case HASH: return 256;
+    case SKIP: return 256 + m;
+    case WIDE: return 2 * (63 + m);
+    default: return 2;
+    }
 }
 
 // One call of both, from any scratch and list, held to the rules.
@@ -92,17 +99,19 @@ struct paper {
     size_t cells;
     struct {
         long steps, mark, hits;
-    } want[4];
+    } want[METHODS];
 };
 #define R1 "011001001000100110100101000101001001"
 #define R2 "110010110010110010110010110010110"
 #define V2 "110010110010110010110"
 static const struct paper papers[] = {
-    {R1, "0100110100", 9, {{27, 27, 1}, {5, 27, 1}, {-1, 0, 0}, {1, 27, 1}}},
-    {R2, V2, 1, {{7, 6, 1}, {2, 6, 1}, {-1, 0, 0}, {1, 6, 1}}},
-    {R2, V2, 9, {{13, 13, 3}, {-1, 0, 0}, {2, 13, 3}, {1, 13, 3}}},
-    {"", "1", 9, {{0, 0, 0}, {-1, 0, 0}, {-1, 0, 0}, {0, 0, 0}}},
-    {"11111", "111", 9, {{3, 3, 3}, {-1, 0, 0}, {-1, 0, 0}, {1, 3, 3}}},
+    {R1, "0100110100", 9, {{27, 27, 1}, {5, 27, 1}, {-1, 0, 0}, {1, 27, 1}, {5, 27, 1}}},
+    {R2, V2, 1, {{7, 6, 1}, {2, 6, 1}, {-1, 0, 0}, {1, 6, 1}, {2, 6, 1}}},
+    {R2, V2, 9, {{13, 13, 3}, {-1, 0, 0}, {2, 13, 3}, {1, 13, 3}, {3, 13, 3}}},
+    {"", "1", 9, {{0, 0, 0}, {-1, 0, 0}, {-1, 0, 0}, {0, 0, 0}, {0, 0, 0}}},
+    {"11111", "111", 9, {{3, 3, 3}, {-1, 0, 0}, {-1, 0, 0}, {1, 3, 3}, {3, 3, 3}}},
+    // Tail moves by 1 at first, as the window 1001 ends in 001: a beginning of the pattern that does not end it.
+    {"10010011", "0011", 9, {{5, 5, 1}, {-1, 0, 0}, {-1, 0, 0}, {1, 5, 1}, {3, 5, 1}}},
 };
 
 static void check_papers(void) {
@@ -111,7 +120,7 @@ static void check_papers(void) {
     uint32_t list[16];
     struct answer got;
     for (size_t i = 0; i < sizeof papers / sizeof *papers; i++)
-        for (int method = 0; method < 4; method++)
+        for (int method = 0; method < METHODS; method++)
             for (int who = 0; who < 3 && papers[i].want[method].steps >= 0; who++) {
                 const struct paper *p = papers + i;
                 size_t n = strlen(p->text), m = strlen(p->pattern);
@@ -142,7 +151,10 @@ static void check_refusals(void) {
         {9, 2, 9, 1, 99, 0, SKIP, 4},         {9, 2, 7, 1, 99, 0, HASH, 5},        {64, 8, 14, 2, 99, 0, SKIP, 5},
         {36, 5, 10, 2, 28, 0, PLAIN, 6},      {36, 5, 10, 2, ~0u, 0, WIDE, 6},     {36, 5, 10, 2, 27, 4223, WIDE, 7},
         {36, 5, 10, 2, 27, CELLS, WIDE, 0},   {36, 5, 8, 1, 29, CELLS, HASH, 0},   {36, 5, 15, 2, 22, CELLS, SKIP, 0},
-        {0, 0, 2048, 256, 0, CELLS, SKIP, 0}, {0, 0, 1, 1, 1, CELLS, PLAIN, 6},
+        {0, 0, 2048, 256, 0, CELLS, SKIP, 0}, {0, 0, 1, 1, 1, CELLS, PLAIN, 6},    {64, 8, 65, 8, 99, 0, TAIL, 4},
+        {0, 0, 2048, 256, 0, CELLS, TAIL, 5}, {64, 8, 65, 9, 99, 0, TAIL, 5},      {64, 8, 64, 8, 2, 0, TAIL, 6},
+        {64, 8, 64, 8, 1, 4223, TAIL, 7},     {64, 8, 64, 8, 1, CELLS, TAIL, 0},   {64, 8, 1, 1, 64, CELLS, TAIL, 0},
+        {~0ull, 0, 0, 0, 9, 0, METHODS, 100},
     };
     for (size_t i = 0; i < sizeof rows / sizeof *rows; i++) {
         uint64_t o[4];
@@ -197,7 +209,7 @@ int check(long rounds) {
         int large = r % 4 == 3;
         struct input x = input(text, pattern, large, below(2));
         size_t end = x.m <= x.n ? x.n - x.m + 1 : 0;
-        for (int method = 0; method < 4; method++) {
+        for (int method = 0; method < METHODS; method++) {
             if (!takes(method, x.m)) continue;
             for (size_t mark = 0; mark <= end; mark += large ? 1 + below(end / 4 + 1) : 1) {
                 size_t budgets[] = {0, 1, 2, below(20), 4294967295u}, cells[] = {0, 1, below(5), large ? 6000 : 400};

@@ -2,9 +2,11 @@
 #include "rules.h"
 #include "draw.h"
 
-const char *const method_names[4] = {"plain", "hash", "skip", "wide"};
+const char *const method_names[METHODS] = {"plain", "hash", "skip", "wide", "tail"};
 
-int takes(int method, size_t m) { return m >= (method == HASH ? 8u : method == SKIP ? 15u : 1u); }
+int takes(int method, size_t m) {
+    return method == HASH ? m >= 8 : method == SKIP ? m >= 15 : method == TAIL ? m <= 64 : 1;
+}
 
 static int hit(const uint8_t *t, const uint8_t *w, size_t m, size_t s) {
     for (size_t j = 0; j < m; j++)
@@ -41,7 +43,7 @@ static size_t step(const uint8_t *t, size_t n, const uint8_t *w, size_t m, int m
         for (size_t a = s; a <= 8 * b && a < end; a++)
             if (hit(t, w, m, a)) f[(*k)++] = a;
         next = 8 * b + 1;
-    } else {
+    } else if (method == WIDE) {
         for (size_t i = 0; i < 64 && s + i < end; i++)
             if (hit(t, w, m, s + i)) f[(*k)++] = s + i;
         size_t ws = 63 + m;
@@ -52,6 +54,12 @@ static size_t step(const uint8_t *t, size_t n, const uint8_t *w, size_t m, int m
             while (j && bit_at(w, j - 1) != bit_at(t, s + ws)) j--;
             next = s + ws + 1 - j;
         }
+    } else {
+        // The greatest r below m such that the pattern's first r bits are the window's last r; 0 always is one.
+        size_t r = m - 1;
+        while (!hit(t, w, r, s + m - r)) r--;
+        if (hit(t, w, m, s)) f[(*k)++] = s;
+        next = s + m - r;
     }
     return next < end ? next : end;
 }

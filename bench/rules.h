@@ -3,7 +3,7 @@
 #define RULES_H
 #include "yardstick.h"
 
-extern const char *const method_names[4];
+extern const char *const method_names[METHODS];
 
 // Whether a method takes patterns of m bits.
 int takes(int method, size_t m);

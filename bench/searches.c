@@ -10,7 +10,7 @@
 #include <stdlib.h>
 #include <string.h>
 
-enum { METHODS = 4, CONTENDERS = 2 * METHODS + 1, LOOP = 2 * METHODS, PATTERNS = 2, ALL = -1 };
+enum { CONTENDERS = 2 * METHODS + 1, LOOP = 2 * METHODS, PATTERNS = 2, ALL = -1 };
 
 static uint64_t scratch[CELLS];
 
@@ -19,10 +19,15 @@ static uint64_t scratch[CELLS];
 struct job {
     const uint8_t *t, *w;
     size_t n, m, cells;
+    int only; // the one method that runs, or ALL
     uint32_t *list;
     struct answer answers[CONTENDERS];
     uint64_t sums[CONTENDERS][2];
 };
+
+static int runs(const struct job *job, int method) {
+    return takes(method, job->m) && (job->only == ALL || job->only == method);
+}
 
 static void search(void *of, int contender) {
     struct job *job = of;
@@ -30,7 +35,7 @@ static void search(void *of, int contender) {
     int method = contender % METHODS;
     if (contender == LOOP)
         *out = (struct answer){.hits = naive_search(job->t, job->n / 8, job->w, job->m, job->list, job->cells)};
-    else if (!takes(method, job->m))
+    else if (!runs(job, method))
         return;
     else if (contender < METHODS)
         library_search(job->t, job->n, job->w, job->m, method, 0, ALL, job->list, job->cells, scratch, out);
@@ -53,7 +58,7 @@ static void sum(void *of, int contender) {
 static void compare(const struct job *job, int summed) {
     for (int i = 0; i < METHODS; i++) {
         int c = METHODS + i;
-        if (!takes(i, job->m)) continue;
+        if (!runs(job, i)) continue;
         if (memcmp(job->answers + i, job->answers + c, sizeof *job->answers) || job->sums[i][0] != job->sums[c][0] ||
             (summed && job->sums[i][1] != job->sums[LOOP][0])) {
             printf("%s, n %zu, m %zu: the answers differ\n", method_names[i], job->n, job->m);
@@ -70,10 +75,10 @@ static void measure(struct job *job, double seconds, double *sums) {
     for (int i = 0; i < CONTENDERS; i++) sums[i] += best[i] / (i == LOOP ? job->n / 8 : job->n);
 }
 
-// A row for each method that takes the pattern.
-static void rows(const char *what, size_t m, const double *sums, int patterns) {
+// A row for each method that ran.
+static void rows(const char *what, const struct job *job, const double *sums, int patterns) {
     for (int method = 0; method < METHODS; method++) {
-        if (!takes(method, m)) continue;
+        if (!runs(job, method)) continue;
         double ns[SIDES] = {sums[method] / patterns, sums[METHODS + method] / patterns, sums[LOOP] / patterns};
         char name[80];
         snprintf(name, sizeof name, "%s | %s", what, method_names[method]);
@@ -96,14 +101,14 @@ void time_texts(int log2) {
         for (size_t k = 0; k < sizeof lengths / sizeof *lengths; k++) {
             double sums[CONTENDERS] = {0};
             progress("searching: %u %% zeros, m = %zu", zeros[z], lengths[k]);
+            struct job job = {.t = t, .w = w, .n = n, .m = lengths[k], .cells = cells, .only = ALL, .list = list};
             for (int pattern = 0; pattern < PATTERNS; pattern++) {
                 draw_word(w, lengths[k], t, n);
-                struct job job = {.t = t, .w = w, .n = n, .m = lengths[k], .cells = cells, .list = list};
                 measure(&job, 3.5, sums);
             }
             char what[16];
             snprintf(what, sizeof what, "%zu", lengths[k]);
-            rows(what, lengths[k], sums, PATTERNS);
+            rows(what, &job, sums, PATTERNS);
         }
     }
     printf("\n### All rows\n");
@@ -111,27 +116,32 @@ void time_texts(int log2) {
     free(t), free(list);
 }
 
-// Texts and patterns on which little is ruled out early.
+// Texts and patterns on which little is ruled out early. Tail, which takes 64 bits at most, gets more short patterns.
 void time_hard(void) {
-    static const size_t lengths[] = {15, 64, 2048};
-    static const char *const kinds[] = {"zeros, pattern of zeros", "zeros, pattern ends in 1", "zeros, pattern begins with 1", "period 6"};
+    static const struct {
+        size_t m;
+        int only;
+    } lengths[] = {{8, TAIL}, {15, ALL}, {20, TAIL}, {32, TAIL}, {64, ALL}, {2048, ALL}};
+    enum { ZEROS, LAST, FIRST, MIDDLE, PERIOD, KINDS };
+    static const char *const kinds[KINDS] = {"zeros, pattern of zeros", "zeros, pattern ends in 1",
+                                             "zeros, pattern begins with 1", "zeros, pattern has a 1 in its middle",
+                                             "period 6"};
     size_t n = 1 << 19;
     uint8_t *t = malloc(n / 8), w[256];
     uint32_t *list = calloc(n, sizeof *list);
     head(" text and pattern | m | method | library | C | naive Rust | library / C | naive / library ");
-    for (int kind = 0; kind < 4; kind++) {
+    for (int kind = 0; kind < KINDS; kind++) {
         progress("hard texts: %s", kinds[kind]);
-        for (size_t k = 0; k < 3; k++) {
-            size_t m = lengths[k];
+        for (size_t k = 0; k < sizeof lengths / sizeof *lengths; k++) {
+            size_t m = lengths[k].m, one = kind == LAST ? m - 1 : kind == FIRST ? 0 : kind == MIDDLE ? m / 2 : m;
             double sums[CONTENDERS] = {0};
-            for (size_t i = 0; i < n; i++) set_bit(t, i, kind == 3 && "110010"[i % 6] == '1');
-            for (size_t i = 0; i < m; i++)
-                set_bit(w, i, kind == 1 ? i == m - 1 : kind == 2 ? i == 0 : kind == 3 && "110010"[i % 6] == '1');
-            struct job job = {.t = t, .w = w, .n = n, .m = m, .cells = n, .list = list};
+            for (size_t i = 0; i < n; i++) set_bit(t, i, kind == PERIOD && "110010"[i % 6] == '1');
+            for (size_t i = 0; i < m; i++) set_bit(w, i, kind == PERIOD ? "110010"[i % 6] == '1' : i == one);
+            struct job job = {.t = t, .w = w, .n = n, .m = m, .cells = n, .only = lengths[k].only, .list = list};
             measure(&job, 1, sums);
             char what[80];
             snprintf(what, sizeof what, "%s | %zu", kinds[kind], m);
-            rows(what, m, sums, 1);
+            rows(what, &job, sums, 1);
         }
     }
     free(t), free(list);
@@ -141,26 +151,27 @@ void time_hard(void) {
 static void search_shortly(void *of, int contender) {
     struct job *job = of;
     struct answer *out = job->answers + contender;
-    for (uint32_t mark = 0; mark < 1000; mark++)
+    for (uint32_t mark = 0; mark < 1000 && runs(job, contender % METHODS); mark++)
         (contender < METHODS ? library_search : c_search)(job->t, job->n, job->w, job->m, contender % METHODS, mark, 1, job->list,
                                                           job->cells, scratch, out);
 }
 
 void time_short(void) {
-    static const size_t lengths[] = {15, 2048};
+    static const size_t lengths[] = {15, 64, 2048};
     static uint8_t t[4096], w[256];
     static uint32_t list[16];
     draw_text(t, 8 * sizeof t, 50);
     progress("calls with a budget of 1");
     head(" m | method | library | C | library / C ");
-    for (size_t k = 0; k < 2; k++) {
+    for (size_t k = 0; k < sizeof lengths / sizeof *lengths; k++) {
         double best[2 * METHODS];
         draw_word(w, lengths[k], t, 8 * sizeof t);
-        struct job job = {.t = t, .w = w, .n = 8 * sizeof t, .m = lengths[k], .cells = 16, .list = list};
+        struct job job = {.t = t, .w = w, .n = 8 * sizeof t, .m = lengths[k], .cells = 16, .only = ALL, .list = list};
         least((struct race){search_shortly, 0, &job, 2 * METHODS}, 4, 40, best);
         compare(&job, 0);
         for (int method = 0; method < METHODS; method++)
-            printf("| %zu | %s | %.0f | %.0f | %.2f |\n", lengths[k], method_names[method], best[method] / 1000,
-                   best[METHODS + method] / 1000, best[method] / best[METHODS + method]);
+            if (runs(&job, method))
+                printf("| %zu | %s | %.0f | %.0f | %.2f |\n", lengths[k], method_names[method], best[method] / 1000,
+                       best[METHODS + method] / 1000, best[method] / best[METHODS + method]);
     }
 }

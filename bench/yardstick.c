@@ -1,4 +1,4 @@
-// The four search rules in plain C, written for speed, with no proof and no care for bytes that a caller did not lend
+// The five search rules in plain C, written for speed, with no proof and no care for bytes that a caller did not lend
 // other than those past the end. See yardstick.h.
 #include "yardstick.h"
 #include <string.h>
@@ -264,6 +264,40 @@ static struct run wide(const uint8_t *t, size_t len, size_t n, const struct patt
     return (struct run){s < end ? s : end, steps, hits, 0};
 }
 
+// Tail: cell c a 1 at bit 63 - j for each index j at which the pattern is c.
+static void tail_tables(const struct pattern *w, uint64_t *c) {
+    uint64_t x = bytes64(w->bytes, w->len, 0), all = ~0ull << (64 - w->m);
+    c[0] = ~x & all;
+    c[1] = x & all;
+}
+
+// The window, of at most 64 bits, is read from its last bit on. After k bits d has a 1 at bit 63 - j for each index j
+// from which the pattern shows these k; bit 63 says that they are its first k. The greatest such k below m is the
+// rule's r, and k = m is a hit.
+static struct run tail(const uint8_t *t, size_t len, size_t m, const uint64_t *c, size_t from, size_t end,
+                       size_t budget, uint32_t *list, size_t cells) {
+    size_t s = from, steps = 0, hits = 0;
+    while (s < end && steps < budget) {
+        uint64_t x = bits64(t, len, s) >> (64 - m), d = c[x & 1];
+        size_t r = 0, k = 1;
+        steps++;
+        while (d) {
+            if (d >> 63) {
+                if (k == m) {
+                    if (hits == cells) return (struct run){s, steps, hits, 1};
+                    list[hits++] = s;
+                    break;
+                }
+                r = k;
+            }
+            x >>= 1, k++;
+            d = d << 1 & c[x & 1];
+        }
+        s += m - r;
+    }
+    return (struct run){s < end ? s : end, steps, hits, 0};
+}
+
 void c_search(const uint8_t *text, uint64_t n, const uint8_t *pattern, uint64_t m, int method, uint32_t mark,
               uint32_t budget, uint32_t *list, size_t cells, uint64_t *scratch, struct answer *out) {
     size_t len = (n + 7) / 8, end = m <= n ? n - m + 1 : 0;
@@ -277,9 +311,12 @@ void c_search(const uint8_t *text, uint64_t n, const uint8_t *pattern, uint64_t 
         r = hash(text, len, &w, scratch, mark, end, budget, list, cells);
     } else if (method == SKIP) {
         r = skip(text, len, &w, scratch, mark, end, budget, list, cells);
-    } else {
+    } else if (method == WIDE) {
         wide_tables(&w, scratch);
         r = wide(text, len, n, &w, scratch, mark, end, budget, list, cells);
+    } else {
+        tail_tables(&w, scratch);
+        r = tail(text, len, m, scratch, mark, end, budget, list, cells);
     }
     *out = (struct answer){0, r.steps, r.hits, r.at, r.full ? FULL : r.at == end ? DONE : SPENT};
 }

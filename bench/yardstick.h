@@ -1,10 +1,10 @@
-// The C yardstick: the four search rules in plain C, with the call's loop, to measure the library against.
+// The C yardstick: the five search rules in plain C, with the call's loop, to measure the library against.
 #ifndef YARDSTICK_H
 #define YARDSTICK_H
 #include <stddef.h>
 #include <stdint.h>
 
-enum method { PLAIN, HASH, SKIP, WIDE };
+enum method { PLAIN, HASH, SKIP, WIDE, TAIL, METHODS };
 enum stop { DONE, FULL, SPENT };
 
 struct answer {
