@@ -5,17 +5,17 @@ use mathlib.Core.Path.{_≡_, refl, sym, ap, _∙_}
 use mathlib.Core.Logic.{_⊎_, inl, inr, ⊎-elim}
 use mathlib.Core.Bool.{Bool, true, false, _&&_, cond}
 use mathlib.Core.List.{List}
-use native.Mathlib.Nat.{add-zero, zero-mul, suc-mul, mod-lt, div-add-mod'}
+use native.Mathlib.Nat.{add-zero, zero-add, zero-mul, suc-mul, mod-lt, div-add-mod'}
 use native.Mathlib.Decide.{decLe}
 use native.Mathlib.Omega.{arith}
 use lib.Bits.{bitAnd, bitOr, bitXor}
 use lib.Dec.{ltb, eqb}
 use lib.ListN.{getD}
-use lib.Pow.{pow-pos, high, shl-shr, ones-lt}
+use lib.Pow.{pow-pos, high, shl-shr, shr-lt, ones-lt}
 use borrow.Author.Tests.{lt-ltb, le-ltb, eq-eqb, ne-eqb}
 use Rattle.bits.specs.Packed.{bitAt, bitsAt, weight, bitOf}
 use Rattle.bits.proofs.Weight.{bit-or-bit, weight-lt, weight-out, weight-shr, weight-shl-low, weight-mod, weight-zero, weight-ones, weight-and, weight-or, weight-xor, ones-shl, shl-low, shl-high, same-weights}
-use Rattle.bits.proofs.Run.{bit-lt, bit-of-bits}
+use Rattle.bits.proofs.Run.{bit-lt, bits-lt, weight-of-bits}
 use Rattle.rules.specs.Pattern.{Pattern, agrees}
 use Rattle.rules.proofs.Pattern.{agrees-iff, agrees-one, agrees-zero}
 use Rattle.rules.proofs.Ranges.{every-at, to-every}
@@ -113,6 +113,23 @@ module _ (w : Pattern) (zeros ones : ℕ) (masks : MasksOf w zeros ones) where
   pub fits-ends : (x r : ℕ) → r ≤ w .count → Fits ones x r → endsIn w x r ≡ true
   unfolding endsIn
   fits-ends x r few h = to-every r _ (λ j l. agrees-iff w j (weight x (r - suc j)) .1 (sym (h j l) ∙ ones-bit j (omega arith)))
+
+-- the mask of ones, moved down, is the pattern as a number
+pub ones-window : (w : Pattern) (zeros ones : ℕ) → MasksOf w zeros ones → ones < 2 ^ 64 → w .count ≤ 64 → ones / 2 ^ (64 - w .count) ≡ bitsAt (w .bytes) 0 (w .count)
+ones-window w zeros ones masks h few =
+    same-weights (w .count) (ones / 2 ^ (64 - w .count)) (bitsAt (w .bytes) 0 (w .count)) small (bits-lt (w .bytes) 0 (w .count)) (λ i l.
+    let there : 64 - w .count + i ≡ 63 - (w .count - 1 - i) = omega arith in
+    weight-shr ones (64 - w .count) i
+    ∙ ap (weight ones) there
+    ∙ ones-bit w zeros ones masks (w .count - 1 - i) (omega arith)
+    ∙ ap (bitAt (w .bytes)) (sym (zero-add (w .count - 1 - i)))
+    ∙ sym (weight-of-bits (w .bytes) 0 l))
+  where
+    all : w .count + (64 - w .count) ≡ 64
+    all = omega arith
+
+    small : ones / 2 ^ (64 - w .count) < 2 ^ (w .count)
+    small = shr-lt (w .count) (64 - w .count) (rw all h)
 
 -- the cells of the table are the pattern's masks
 pub masks-of-tables : (w : Pattern) (cells : List ℕ) → w .count ≤ 64 → TailTables w cells → MasksOf w (getD cells 0 0) (getD cells 1 0)

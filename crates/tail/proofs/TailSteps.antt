@@ -33,7 +33,7 @@ use Rattle.matcher.specs.Progress.{GoodPattern, Ready, Stepped}
 use Rattle.matcher.proofs.Chunks.{chunk-agrees, chunk-differs}
 use Rattle.tail.specs.declared.Masks.{Masks}
 use Rattle.tail.specs.Lengths.{endsIn, MasksOf, Longest, Moves}
-use Rattle.tail.proofs.TailMasks.{masks-of-tables}
+use Rattle.tail.proofs.TailMasks.{masks-of-tables, ones-window}
 
 pub short-enough : (w : Pattern) → GoodPattern Tail w → w .count ≤ 64
 short-enough w g = ltb-false 64 (w .count) (g .fit)
@@ -162,3 +162,8 @@ pub next-by : (t : Packed) (w : Pattern) (cells : List ℕ) → Ready Tail t w c
 next-by t w cells ready s k m z o x far e moves =
     next-is t w s (getD cells 0 0) (getD cells 1 0) x (moves .length) (masks-ready t w cells ready) e (rw (m, z, o) at (moves .longest))
     ∙ rw (moves .is, m)
+
+-- the pattern as a number, from the mask of ones
+pub whole-is : (t : Packed) (w : Pattern) (cells : List ℕ) → Ready Tail t w cells → (ones : ℕ) → ones < 2 ^ 64 → ones ≡ getD cells 1 0
+    → ones / 2 ^ (64 - w .count) ≡ bitsAt (w .bytes) 0 (w .count)
+whole-is t w cells ready ones h e = ones-window w (getD cells 0 0) ones (rw e (masks-ready t w cells ready)) h (short-enough w (ready .pattern))

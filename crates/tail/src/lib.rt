@@ -14,6 +14,7 @@
 //
 // Cell 0 of the table is the mask for text bits of 0, cell 1 that for text bits of 1: bit j from the left is 1 where the
 // pattern has that bit at index j.
+use bits::ByteNo;
 use bits::Place;
 use bits::load;
 use matcher::Advance;
@@ -38,7 +39,7 @@ pub fn prepare(pattern: &[u8], m: u32, cells: &mut [u64])
     ensures { λ _. ⌜ Prepared Method.Tail (patternOf (now (pattern .entry)) m) (now (cells .entry)) (now (cells .exit)) ⌝ }
 {
     let inside = ALL << (64 - m);
-    let ones = load::word_at(pattern, Place(0)) & inside;
+    let ones = load::word_at_byte(pattern, ByteNo(0)) & inside;
     cells[0] = ones ^ inside;
     cells[1] = ones;
 }
@@ -239,7 +240,7 @@ pub fn step(
     let x = window(text, m, s);
     let far = s.0 + (m - longest(k, x));
     let next = Place(matcher::cut(far, n - m + 1));
-    if x == window(pattern, m, Place(0)) {
+    if x == k.ones >> (64 - m) {
         if had < list.len() {
             list[had] = s.0;
             return Found {
@@ -279,9 +280,17 @@ pub fn advance(
     requires { ⌜ (s .0 ≤ places (textOf (now text) n) (patternOf (now pattern) m)) × (had ≤ length (now list)) ⌝ }
     ensures { λ r. ⌜ Advanced Method.Tail (textOf (now (text .entry)) n) (patternOf (now (pattern .entry)) m) (s .0) budget (now (list .entry)) had (r .at .0) (r .steps) (r .hits) (r .full) (now (list .exit)) ⌝ }
 {
+    if budget == 0 {
+        return Advance {
+            at: s,
+            steps: 0,
+            hits: had,
+            full: false,
+        };
+    }
     let end = n - m + 1;
     let k = masks_of(m, cells[0], cells[1]);
-    let whole = window(pattern, m, Place(0));
+    let whole = k.ones >> (64 - m);
     let period = m - longest(k, whole);
     let mut last = whole;
     let mut far = period;

@@ -17,8 +17,8 @@ cast-inside c = search needs
 shl-inside : tie.Need-shl-inside
 shl-inside c = search needs
 
-word-at-requires : tie.Need-word-at-requires
-word-at-requires c κs = search needs
+word-at-byte-requires : tie.Need-word-at-byte-requires
+word-at-byte-requires c κs = search needs
 
 slice-write-cells : tie.Need-slice-write-cells
 slice-write-cells c = search needs
@@ -34,7 +34,7 @@ returns c =
     let s = c .before .before .before in
     let a = s .args in
     let w = patternOf (now (a .pattern)) (a .m) in
-    prepared w (s .pre .0 .some-bits) (short-enough w (s .pre .0)) (now (a .cells)) _ (s .pre .1) (c .word-at .ensures)
+    prepared w (s .pre .0 .some-bits) (short-enough w (s .pre .0)) (now (a .cells)) _ (s .pre .1) (c .word-at-byte .ensures)
 
 pub prepare-spec : {M : Type 1} → statement M
 prepare-spec =
@@ -43,7 +43,7 @@ prepare-spec =
     sub-inside
     cast-inside
     shl-inside
-    word-at-requires
+    word-at-byte-requires
     slice-write-cells
     slice-write-cells-2
     same-length

@@ -1,15 +1,16 @@
 -- `tail::step` meets its contract: the place is found just where the window is the pattern.
 -- Assumes nothing.
 use mathlib.Core.Path.{_≡_, sym, ap, _∙_}
-use Prim.Native.Nat.{ℕ, _+_, _-_}
+use Prim.Native.Nat.{ℕ, _+_, _-_, _/_, _^_}
 use native.Mathlib.Omega.{arith}
 use denote.Ref.{now}
+use Rattle.bits.specs.Packed.{bitsAt}
 use Rattle.rules.specs.declared.Method.the-variants.{Tail}
 use Rattle.rules.specs.Occurrence.{places}
 use Rattle.rules.specs.Step.{next}
 use Rattle.matcher.specs.Progress.{textOf, patternOf}
 use Rattle.matcher.proofs.Writing.{alone-cut, alone-hit, alone-miss}
-use Rattle.tail.proofs.TailSteps.{short-enough, next-by, window-hit, window-miss, finds-alone}
+use Rattle.tail.proofs.TailSteps.{short-enough, next-by, whole-is, window-hit, window-miss, finds-alone}
 use borrow.Author.Needs.{needs}
 use Rattle.tail.proofs.step.Statement.{statement}
 use Rattle.tail.proofs.step.Tie as tie
@@ -29,6 +30,16 @@ moved c =
     ∙ rw end
     (sym (next-by (textOf (now (a .text)) (a .n)) (patternOf (now (a .pattern)) (a .m)) (now (a .cells)) (s .pre .0) (a .s .0) (k .result) (k .ensures .0) (k .ensures .1) (k .ensures .2) (x .result) _ (x .ensures)
     (record { length = r .result; longest = r .ensures; is = ap (λ (m : ℕ). m - r .result) (sym (k .ensures .0)) })))
+
+-- what the window is compared with
+whole : (c : tie.After-cut)
+    → let a = c .before .before .before .before .before .before .before .before .before .before .before .args in
+    c .before .before .before .before .masks-of .result .ones / 2 ^ (64 - a .m) ≡ bitsAt (now (a .pattern)) 0 (a .m)
+whole c =
+    let s = c .before .before .before .before .before .before .before .before .before .before .before in
+    let a = s .args in
+    let k = c .before .before .before .before .masks-of in
+    whole-is (textOf (now (a .text)) (a .n)) (patternOf (now (a .pattern)) (a .m)) (now (a .cells)) (s .pre .0) (k .result .ones) (rw (k .ensures .2) (c .before .before .before .before .before .before .before .before .shared-slice-known3 .given 1 .fits)) (k .ensures .2)
 
 shared-slice-read-masks-of : tie.Need-shared-slice-read-masks-of
 shared-slice-read-masks-of c = search needs
@@ -64,8 +75,14 @@ add-cut c = search needs
 cut-requires : tie.Need-cut-requires
 cut-requires c κs = search needs
 
-window-requires-2 : tie.Need-window-requires-2
-window-requires-2 c κs = search needs
+sub-if1 : tie.Need-sub-if1
+sub-if1 c = search needs
+
+cast-if1 : tie.Need-cast-if1
+cast-if1 c = search needs
+
+shr-if1 : tie.Need-shr-if1
+shr-if1 c = omega (arith, c .before .before .before .before .before .before .before .before .before .before .before .before .pre .0 .pattern .some-bits)
 
 mul-list : tie.Need-mul-list
 mul-list c = omega (arith, c .before .before .before .before .before .before .before .before .before .before .before .before .before .before .good)
@@ -73,8 +90,8 @@ mul-list c = omega (arith, c .before .before .before .before .before .before .be
 slice-write-list : tie.Need-slice-write-list
 slice-write-list c = search needs
 
-add-t25 : tie.Need-add-t25
-add-t25 c = omega (arith, c .before .before .before .before .before .before .before .before .before .before .before .before .before .before .good)
+add-t24 : tie.Need-add-t24
+add-t24 c = omega (arith, c .before .before .before .before .before .before .before .before .before .before .before .before .before .before .good)
 
 same-length : tie.Need-same-length
 same-length c = search needs
@@ -84,27 +101,24 @@ returns c =
     let s = c .before .before .before .before .before .before .before .before .before .before .before .before .before .before in
     let a = s .args in
     let x = c .before .before .before .before .before .before .window in
-    let p = c .before .before .window2 in
     alone-hit Tail (textOf (now (a .text)) (a .n)) (patternOf (now (a .pattern)) (a .m)) (a .s .0) (now (a .list)) (a .had) (finds-alone (textOf (now (a .text)) (a .n)) (patternOf (now (a .pattern)) (a .m)) (a .s .0)) _ (moved (c .before .before .before))
-    (window-hit (textOf (now (a .text)) (a .n)) (patternOf (now (a .pattern)) (a .m)) (a .s .0) (x .result) (p .result) (x .ensures) (p .ensures) (c .before .if1 .taken)) (c .if2 .taken)
+    (window-hit (textOf (now (a .text)) (a .n)) (patternOf (now (a .pattern)) (a .m)) (a .s .0) (x .result) _ (x .ensures) (whole (c .before .before .before)) (c .before .if1 .taken)) (c .if2 .taken)
 
 returns-2 : tie.Need-returns-2
 returns-2 c =
     let s = c .before .before .before .before .before .before .before .before .before .before .before .before .before .before in
     let a = s .args in
     let x = c .before .before .before .before .before .before .window in
-    let p = c .before .before .window2 in
     alone-cut Tail (textOf (now (a .text)) (a .n)) (patternOf (now (a .pattern)) (a .m)) (a .s .0) (now (a .list)) (a .had) (finds-alone (textOf (now (a .text)) (a .n)) (patternOf (now (a .pattern)) (a .m)) (a .s .0))
-    (window-hit (textOf (now (a .text)) (a .n)) (patternOf (now (a .pattern)) (a .m)) (a .s .0) (x .result) (p .result) (x .ensures) (p .ensures) (c .before .if1 .taken)) (omega arith)
+    (window-hit (textOf (now (a .text)) (a .n)) (patternOf (now (a .pattern)) (a .m)) (a .s .0) (x .result) _ (x .ensures) (whole (c .before .before .before)) (c .before .if1 .taken)) (omega arith)
 
 returns-3 : tie.Need-returns-3
 returns-3 c =
     let s = c .before .before .before .before .before .before .before .before .before .before .before .before .before in
     let a = s .args in
     let x = c .before .before .before .before .before .window in
-    let p = c .before .window2 in
     alone-miss Tail (textOf (now (a .text)) (a .n)) (patternOf (now (a .pattern)) (a .m)) (a .s .0) (now (a .list)) (a .had) (finds-alone (textOf (now (a .text)) (a .n)) (patternOf (now (a .pattern)) (a .m)) (a .s .0)) _ (moved (c .before .before))
-    (window-miss (textOf (now (a .text)) (a .n)) (patternOf (now (a .pattern)) (a .m)) (a .s .0) (x .result) (p .result) (x .ensures) (p .ensures) (c .if1 .left)) (s .pre .1 .1 .1)
+    (window-miss (textOf (now (a .text)) (a .n)) (patternOf (now (a .pattern)) (a .m)) (a .s .0) (x .result) _ (x .ensures) (whole (c .before .before)) (c .if1 .left)) (s .pre .1 .1 .1)
 
 pub step-spec : {M : Type 1} → statement M
 step-spec =
@@ -120,10 +134,12 @@ step-spec =
     sub-cut
     add-cut
     cut-requires
-    window-requires-2
+    sub-if1
+    cast-if1
+    shr-if1
     mul-list
     slice-write-list
-    add-t25
+    add-t24
     same-length
     returns
     returns-2
