@@ -1,11 +1,10 @@
 -- The tail method is right: an occurrence inside the window but after s has its first bits at the window's end, so their length is
 -- at most r and it lies at s + m − r or later.
 use Prim.Native.Nat.{ℕ, _+_, _-_, _≤_, _<_}
-use mathlib.Core.Path.{_≡_, refl, sym, ap, _∙_}
+use mathlib.Core.Path.{_≡_, sym, ap, _∙_}
 use mathlib.Core.Bool.{Bool, true, true≢false}
 use mathlib.Core.List.{[]}
 use mathlib.Core.Option.{Option, none, some}
-use native.Mathlib.Decide.{decLe}
 use native.Mathlib.Omega.{arith}
 use Rattle.bits.specs.Packed.{Packed, bitAt}
 use Rattle.rules.specs.declared.Method.the-variants.{Tail}

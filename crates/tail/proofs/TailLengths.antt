@@ -1,16 +1,15 @@
 -- Laws of the lengths that are left: the highest one, what a comparison says of one, and the greatest that the comparison bears out.
 -- Assumes nothing.
-use Prim.Native.Nat.{ℕ, suc, _+_, _-_, _*_, _/_, _%_, _^_, _≤_, _<_, max}
+use Prim.Native.Nat.{ℕ, suc, _+_, _-_, _*_, _/_, _%_, _^_, _≤_, _<_}
 use mathlib.Core.Path.{_≡_, refl, sym, ap, _∙_}
-use mathlib.Core.Bool.{true}
 use mathlib.Core.Option.{some}
-use native.Mathlib.Nat.{mod-lt, div-self, pow-suc}
-use native.Mathlib.Numerals.{add-one, one-add}
+use native.Mathlib.Nat.{mod-lt, div-self}
+use native.Mathlib.Numerals.{one-add}
 use native.Mathlib.Decide.{decLe, ℕ-discrete}
 use native.Mathlib.Omega.{arith}
 use lib.Bits.{bitAnd, bitOr, bitXor, or-lt, xor-lt}
 use lib.Count.{leadingZeros, leading-top, leading-of-zero}
-use lib.Pow.{pow-pos, shr-lt, shr-mono, split}
+use lib.Pow.{pow-pos, shr-lt, shr-mono}
 use Rattle.bits.specs.Packed.{weight, bitOf}
 use Rattle.bits.proofs.Weight.{weight-lt, weight-out, weight-or, weight-zero}
 use Rattle.rules.specs.Ranges.{greatest}
@@ -66,18 +65,6 @@ module _ (d : ℕ) (h : d < 2 ^ 64) where
             omega (arith, weight-or d 1 r, weight-out {x = 1} {w = 1} {i = r} (omega arith) (omega arith), odd-bits .1, weight-lt d r);
         above = λ i l. omega (arith, weight-or d 1 i, odd-bits .2 i l);
       }
-
--- a guess that is the highest bit of d
-pub guessed : (d g : ℕ) → g < 64 → d / 2 ^ g ≡ 1 → Top d g
-guessed d g few e =
-    record {
-      few = few;
-      set = λ l. rw e;
-      above = λ i l. weight-out {x = d} {w = suc g} {i = i} below (omega arith);
-    }
-  where
-    below : d < 2 ^ suc g
-    below = rw (pow-suc 2 g) (omega (arith, split d g, mod-lt d (pow-pos g), ap (λ (q : ℕ). q * 2 ^ g) e))
 
 -- ---- the comparison
 

@@ -1,20 +1,20 @@
 -- Laws of the masks and of the words made of them: what the pattern's bits are, which lengths a spread bit and the first run leave.
 -- Assumes nothing.
-use Prim.Native.Nat.{ℕ, zero, suc, _+_, _-_, _*_, _/_, _%_, _^_, _≤_, _<_, min, max}
-use mathlib.Core.Path.{_≡_, refl, sym, ap, _∙_}
-use mathlib.Core.Logic.{_⊎_, inl, inr, ⊎-elim}
-use mathlib.Core.Bool.{Bool, true, false, _&&_, cond}
+use Prim.Native.Nat.{ℕ, zero, suc, _+_, _-_, _*_, _/_, _%_, _^_, _≤_, _<_}
+use mathlib.Core.Path.{_≡_, sym, ap, _∙_}
+use mathlib.Core.Logic.{_⊎_, inl, inr}
+use mathlib.Core.Bool.{Bool, true, false, cond}
 use mathlib.Core.List.{List}
 use native.Mathlib.Nat.{add-zero, zero-add, zero-mul, suc-mul, mod-lt, div-add-mod'}
 use native.Mathlib.Decide.{decLe}
 use native.Mathlib.Omega.{arith}
 use lib.Bits.{bitAnd, bitOr, bitXor}
-use lib.Dec.{ltb, eqb}
+use lib.Dec.{eqb}
 use lib.ListN.{getD}
 use lib.Pow.{pow-pos, high, shl-shr, shr-lt, ones-lt}
-use borrow.Author.Tests.{lt-ltb, le-ltb, eq-eqb, ne-eqb}
+use borrow.Author.Tests.{lt-ltb, eq-eqb, ne-eqb}
 use Rattle.bits.specs.Packed.{bitAt, bitsAt, weight, bitOf}
-use Rattle.bits.proofs.Weight.{bit-or-bit, weight-lt, weight-out, weight-shr, weight-shl-low, weight-mod, weight-zero, weight-ones, weight-and, weight-or, weight-xor, ones-shl, shl-low, shl-high, same-weights}
+use Rattle.bits.proofs.Weight.{bit-or-bit, weight-lt, weight-out, weight-shr, weight-shl-low, weight-mod, weight-zero, weight-ones, weight-and, weight-or, weight-xor, shl-low, shl-high, same-weights}
 use Rattle.bits.proofs.Run.{bit-lt, bits-lt, weight-of-bits}
 use Rattle.rules.specs.Pattern.{Pattern, agrees}
 use Rattle.rules.proofs.Pattern.{agrees-iff, agrees-one, agrees-zero}

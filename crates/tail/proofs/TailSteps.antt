@@ -5,21 +5,21 @@ use Prim.Native.Nat.{ℕ, suc, _+_, _-_, _*_, _/_, _%_, _^_, _≤_, _<_, min}
 use mathlib.Core.Path.{_≡_, refl, sym, ap, _∙_}
 use mathlib.Core.Logic.{_⊎_, inl, inr}
 use mathlib.Core.Bool.{Bool, true, false, _&&_, cond}
-use mathlib.Core.List.{List, [], _∷_}
+use mathlib.Core.List.{List, []}
 use mathlib.Core.Option.{Option, some}
 use native.Mathlib.Nat.{zero-add, add-zero}
 use native.Mathlib.Omega.{arith}
 use lib.Bits.{bitAnd, bitXor}
 use lib.Dec.{ltb, eqb}
-use lib.ListN.{length, getD, drop, set, length-set}
+use lib.ListN.{length, getD, set, length-set}
 use lib.Pow.{shr-shr}
 use lib.Seq.{getD-set-same, getD-set-other, drop-set-lt}
-use borrow.Author.Tests.{ltb-false, eq-eqb, ne-eqb}
-use Rattle.bits.specs.Packed.{Packed, bitAt, bitsAt, weight, bitOf}
+use borrow.Author.Tests.{ltb-false}
+use Rattle.bits.specs.Packed.{Packed, bitAt, bitsAt, bitOf}
 use Rattle.bits.proofs.Weight.{bit-or-bit, weight-and, weight-xor, ones-shl}
-use Rattle.bits.proofs.Run.{bits-first, bit-lt, bit-of-bits, weight-of-bits, agree→load}
+use Rattle.bits.proofs.Run.{bits-first, bit-lt, bit-of-bits, weight-of-bits}
 use Rattle.rules.specs.declared.Method.the-variants.{Tail}
-use Rattle.rules.specs.Ranges.{every, keep, greatest}
+use Rattle.rules.specs.Ranges.{keep, greatest}
 use Rattle.rules.specs.Pattern.{Pattern, agrees}
 use Rattle.rules.specs.Occurrence.{places, matches}
 use Rattle.rules.specs.Wide.{beyond}
@@ -28,8 +28,8 @@ use Rattle.rules.specs.Step.{finds, ahead, next}
 use Rattle.rules.proofs.Ranges.{every-same, greatest-same}
 use Rattle.rules.proofs.Pattern.{agrees-one, agrees-zero}
 use Rattle.rules.proofs.Occurrence.{to-matches}
-use Rattle.matcher.specs.Tables.{TailTables, Prepared}
-use Rattle.matcher.specs.Progress.{GoodPattern, Ready, Stepped}
+use Rattle.matcher.specs.Tables.{Prepared}
+use Rattle.matcher.specs.Progress.{GoodPattern, Ready}
 use Rattle.matcher.proofs.Chunks.{chunk-agrees, chunk-differs}
 use Rattle.tail.specs.declared.Masks.{Masks}
 use Rattle.tail.specs.Lengths.{endsIn, MasksOf, Longest, Moves}

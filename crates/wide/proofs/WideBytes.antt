@@ -2,7 +2,7 @@
 -- filled.
 -- Assumes nothing.
 use mathlib.Core.Path.{_≡_, refl, sym, ap, ap₂, _∙_}
-use mathlib.Core.Logic.{_⊎_, inl, inr, ⊎-elim}
+use mathlib.Core.Logic.{_⊎_, inl, inr}
 use mathlib.Core.List.{List}
 use Prim.Native.Nat.{ℕ, zero, suc, _+_, _-_, _*_, _/_, _%_, _^_, _≤_, _<_, max}
 use native.Mathlib.Nat.{div-one, pow-suc}
@@ -16,10 +16,9 @@ use lib.Seq.{getD-set-same, getD-set-other, drop-set-lt}
 use borrow.Author.Tests.{le-leb, lt-leb}
 use Rattle.bits.specs.Packed.{bitAt, bitOf, weight}
 use Rattle.bits.proofs.Weight.{bit-or-bit, weight-out, weight-shr, weight-shl, weight-shl-low, weight-mod, weight-zero, weight-ones, weight-or}
-use Rattle.bits.proofs.Run.{bit-lt}
 use Rattle.bits.proofs.Loads.{bit-in-byte}
 use Rattle.rules.specs.Pattern.{Pattern, agrees}
-use Rattle.rules.proofs.Ranges.{not-true-false, eq-or-below}
+use Rattle.rules.proofs.Ranges.{eq-or-below}
 use Rattle.rules.proofs.Pattern.{agrees-one, agrees-zero}
 use Rattle.matcher.specs.Tables.{passes}
 use Rattle.wide.specs.Flags.{Enters, Entered, moved}

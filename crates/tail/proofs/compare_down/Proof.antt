@@ -1,6 +1,5 @@
 -- `tail::compare_down` meets its contract. The loop's invariant: the lengths that fit are still left, and r is the longest one left.
 -- Assumes nothing.
-use Prim.Native.Nat.{ℕ, _≤_}
 use native.Mathlib.Omega.{arith}
 use Rattle.tail.specs.Lengths.{Top, Differs}
 use Rattle.tail.proofs.TailLengths.{Going, going-first, going-less, less, settled}

@@ -1,6 +1,5 @@
 -- `tail::prepare` meets its contract.
 -- Assumes nothing.
-use native.Mathlib.Omega.{arith}
 use denote.Ref.{now}
 use Rattle.matcher.specs.Progress.{patternOf}
 use Rattle.tail.proofs.TailSteps.{short-enough, prepared}
