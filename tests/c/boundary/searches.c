@@ -59,17 +59,20 @@ static void second_paper(uint32_t method, uint32_t steps_to_full)
     accepted("an empty text", q, 0, 0, 0, MITONGORY_DONE, NULL);
 }
 
+/* A text of n bits and a pattern of m bits, one byte each; all else as for paper 1. */
+static struct search one_byte_each(uint32_t method, const char *text, uint64_t n, const char *pattern, uint64_t m)
+{
+    struct search q = paper1(method);
+    q.text = text, q.text_len = 1, q.n = n;
+    q.pattern = pattern, q.pattern_len = 1, q.m = m;
+    return q;
+}
+
 /* The pattern 111 in 11111, whatever the bits after the text's last are. Plain and tail move by one place. */
 static void ones(uint32_t method)
 {
     static const uint32_t places[] = {0, 1, 2};
-    struct search q = paper1(method);
-    q.text = "\xf8";
-    q.text_len = 1;
-    q.n = 5;
-    q.pattern = "\xe0";
-    q.pattern_len = 1;
-    q.m = 3;
+    struct search q = one_byte_each(method, "\xf8", 5, "\xe0", 3);
     accepted("occurrences that overlap", q, 3, 3, 3, MITONGORY_DONE, places);
     q.text = "\xff";
     accepted("bits after the last one", q, 3, 3, 3, MITONGORY_DONE, places);
@@ -82,13 +85,7 @@ static void ones(uint32_t method)
 static void beginning_of_the_pattern(void)
 {
     static const uint32_t places[] = {4};
-    struct search q = paper1(MITONGORY_TAIL);
-    q.text = "\x93";
-    q.text_len = 1;
-    q.n = 8;
-    q.pattern = "\x30";
-    q.pattern_len = 1;
-    q.m = 4;
+    struct search q = one_byte_each(MITONGORY_TAIL, "\x93", 8, "\x30", 4);
     accepted("0011 in 10010011", q, 3, 1, 5, MITONGORY_DONE, places);
     q.budget = 1;
     accepted("its first step", q, 1, 0, 1, MITONGORY_SPENT, NULL);
