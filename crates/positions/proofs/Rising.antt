@@ -1,5 +1,5 @@
 -- Laws of `risesFrom` and `encodeFrom` at an index of a list, and the byte count.
-use Prim.Native.Nat.{ℕ, _+_, _-_, _≤_, _<_}
+use Prim.Native.Nat.{ℕ, zero, suc, _+_, _-_, _≤_, _<_}
 use mathlib.Core.Path.{_≡_, refl, sym, ap, _∙_}
 use mathlib.Core.Bool.{Bool, true, false, _&&_, and-false, false≢true}
 use mathlib.Core.List.{List, [], _∷_, _++_}
@@ -7,12 +7,12 @@ use native.Mathlib.Omega.{arith}
 use native.Mathlib.Numerals.{add-one}
 use native.Mathlib.Decide.{decLe, decLt}
 use borrow.Author.Tests.{lt-ltb, le-ltb, le-leb, lt-leb}
-use lib.Dec.{leb, ltb}
+use lib.Dec.{leb, ltb, leb·zero}
 use lib.ListN.{length, getD, drop, length-append, drop-of-length-le}
 use lib.Pow.{areBytes}
 use lib.Seq.{drop-cons}
 use Rattle.positions.specs.Basics.{limit}
-use Rattle.positions.specs.Encode.{encodeNumber, encodeFrom, encode, risesFrom}
+use Rattle.positions.specs.Encode.{encodeNumber, encodeFrom, encode, risesFrom, rising}
 use Rattle.positions.proofs.Groups.{number-bytes}
 
 pub and-both : (a b : Bool) → (a && b) ≡ true → (a ≡ true) × (b ≡ true)
@@ -51,6 +51,21 @@ rises-length next (p ∷ ps) h e =
     let t = rises-taken next p ps e in
     omega (arith, t .0, rises-length (p + 1) ps (omega (arith, t .1)) (t .2))
 
+-- a lower least position allows the same, and what is left of a list rises as well
+pub rises-lower : (low next : ℕ) (l : List ℕ) → low ≤ next → risesFrom next l ≡ true → risesFrom low l ≡ true
+unfolding risesFrom
+rises-lower low next [] h e = refl
+rises-lower low next (p ∷ ps) h e =
+    let t = rises-taken next p ps e in
+    rises-on low p ps (omega (arith, t .0)) (t .1) ∙ t .2
+
+pub rises-rest : (next : ℕ) (l : List ℕ) (i : ℕ) → risesFrom next l ≡ true → risesFrom next (drop i l) ≡ true
+rises-rest next l zero e = e
+rises-rest next [] (suc i) e = e
+rises-rest next (p ∷ ps) (suc i) e =
+    let t = rises-taken next p ps e in
+    rises-rest next ps i (rises-lower next (p + 1) ps (omega (arith, t .0)) (t .2))
+
 -- ---- at an index of a list
 
 module _ (l : List ℕ) (i : ℕ) (inside : i < length l) where
@@ -77,6 +92,19 @@ module _ (l : List ℕ) (i : ℕ) (inside : i < length l) where
   pub size-here : (next : ℕ) → length (encodeFrom next (drop i l)) ≡ length (encodeNumber (getD l i 0 - next)) + length (encodeFrom (getD l i 0 + 1) (drop (i + 1) l))
   size-here next = ap length (encode-here next) ∙ length-append (encodeNumber (getD l i 0 - next)) (encodeFrom (getD l i 0 + 1) (drop (i + 1) l))
 
+  -- A position and the list after it: the next one must be above it, and then the next one and the list after that decide.
+  pub falls-here : (last : ℕ) → getD l i 0 ≤ last → (ltb last limit && risesFrom (last + 1) (drop i l)) ≡ false
+  falls-here last h = rw (low-here (last + 1) (omega arith)) (and-false (ltb last limit))
+
+  pub next-here : (last : ℕ) → last < getD l i 0
+      → (ltb last limit && risesFrom (last + 1) (drop i l)) ≡ (ltb (getD l i 0) limit && risesFrom (getD l i 0 + 1) (drop (i + 1) l))
+  next-here last h =
+      elim (decLt (getD l i 0) limit) [
+        | yes k ↦ rw (lt-ltb last limit (omega arith), lt-ltb (getD l i 0) limit k) (on-here (last + 1) (omega arith) k)
+        | no k ↦
+            rw (large-here (last + 1) (omega arith), le-ltb (getD l i 0) limit (omega arith)) (and-false (ltb last limit))
+      ]
+
 -- after the last position
 module _ (l : List ℕ) (i : ℕ) (past : length l ≤ i) where
   pub rises-end : (next : ℕ) → risesFrom next (drop i l) ≡ true
@@ -86,6 +114,16 @@ module _ (l : List ℕ) (i : ℕ) (past : length l ≤ i) where
   pub encode-end : (next : ℕ) → encodeFrom next (drop i l) ≡ []
   unfolding encodeFrom
   encode-end next = rw (drop-of-length-le l past)
+
+pub rises-none : (l : List ℕ) → length l ≡ 0 → rising l ≡ true
+unfolding rising
+rises-none l h = rises-end l 0 (omega arith) 0
+
+-- the first position and the list after it
+pub rises-first : (l : List ℕ) → 0 < length l → (ltb (getD l 0 0) limit && risesFrom (getD l 0 0 + 1) (drop 1 l)) ≡ rising l
+unfolding rising risesFrom
+rises-first [] h = absurd (omega arith)
+rises-first (p ∷ ps) h = rw (leb·zero p)
 
 -- ---- the byte count
 

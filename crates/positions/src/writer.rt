@@ -35,15 +35,25 @@ pub fn size(list: &[u32]) -> ByteCount
     ByteCount::Bytes(bytes)
 }
 
-// Whether the positions rise strictly and are below 2^30.
+// Whether the positions rise strictly and are below 2^30. Where each is above the one before it, the last is the largest,
+// so only that one is held to the limit.
 pub fn rises(list: &[u32]) -> bool
     ensures { λ r. ⌜ r ≡ rising (now (list .entry)) ⌝ }
 {
-    let needed = size(list);
-    match needed {
-        ByteCount::Bytes(_) => true,
-        ByteCount::Refused(_) => false,
+    if list.len() == 0 {
+        return true;
     }
+    let mut last = list[0];
+    let mut i: usize = 1;
+    while i < list.len() {
+        let p = list[i];
+        if p <= last {
+            return false;
+        }
+        last = p;
+        i += 1;
+    }
+    last < LIMIT
 }
 
 // Stores the file of a list that the writer takes into a target that has room for it.

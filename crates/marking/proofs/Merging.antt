@@ -1,0 +1,109 @@
+-- Laws of the merge at an index of each list.
+use Prim.Native.Nat.{ℕ, _+_, _≤_, _<_}
+use mathlib.Core.Path.{_≡_, refl, sym, ap, subst, _∙_}
+use mathlib.Core.Bool.{Bool, true, false}
+use mathlib.Core.List.{List, [], _∷_, _++_}
+use native.Mathlib.Omega.{arith}
+use native.Mathlib.Nat.{add-zero}
+use native.Mathlib.Numerals.{add-one}
+use native.Mathlib.Decide.{decLt}
+use borrow.Author.Tests.{eq-eqb, ne-eqb, le-leb, lt-leb}
+use mir.Val.{boolByte}
+use lib.Dec.{leb, eqb}
+use lib.ListN.{length, getD, take, drop, length-append, length-drop, take-append-drop, drop-of-length-le}
+use lib.Seq.{length-take-le, take-suc, getD-drop, drop-drop}
+use Rattle.positions.specs.Encode.{risesFrom, rising}
+use Rattle.positions.proofs.Rising.{here, taken-here, rises-rest}
+use Rattle.marking.specs.Marks.{both}
+use Rattle.marking.proofs.Members.{both-same, both-less, both-more, both-common, both-none}
+
+-- what is left of a rising list, after the position at an index
+rises-after : (l : List ℕ) (i : ℕ) → i < length l → rising l ≡ true → risesFrom (getD l i 0 + 1) (drop (i + 1) l) ≡ true
+unfolding rising
+rises-after l i h e = taken-here l i h 0 (rises-rest 0 l i e) .2
+
+-- ---- one step: how far it goes in each list, and what it counts, for the two positions
+
+pub bit-most : (b : Bool) → boolByte b ≤ 1
+bit-most true = omega arith
+bit-most false = omega arith
+
+pub record Moves (x y z : ℕ) : Type 0 where
+  pub x-most : x ≤ 1
+  pub y-most : y ≤ 1
+  pub onward : 1 ≤ x + y
+  pub few : z ≤ x
+
+pub step-moves : (a b : ℕ) → Moves (boolByte (leb a b)) (boolByte (leb b a)) (boolByte (eqb a b))
+step-moves a b =
+    elim (decLt a b) [
+      | yes h ↦
+          rw (le-leb a b (omega arith), lt-leb b a h, ne-eqb a b (λ s. omega arith))
+          (record { x-most = omega arith; y-most = omega arith; onward = omega arith; few = omega arith })
+      | no h ↦
+          elim (decLt b a) [
+            | yes k ↦
+                rw (lt-leb a b k, le-leb b a (omega arith), ne-eqb a b (λ s. omega arith))
+                (record { x-most = omega arith; y-most = omega arith; onward = omega arith; few = omega arith })
+            | no k ↦
+                rw (le-leb a b (omega arith), le-leb b a (omega arith), eq-eqb a b (omega arith))
+                (record { x-most = omega arith; y-most = omega arith; onward = omega arith; few = omega arith })
+          ]
+    ]
+
+module _ (key sheet : List ℕ) (i j : ℕ) (k : i < length key) (s : j < length sheet) (e : rising key ≡ true) (f : rising sheet ≡ true) where
+  less : getD key i 0 < getD sheet j 0 → both (drop (i + 1) key) (drop j sheet) ≡ both (drop i key) (drop j sheet)
+  less h =
+      rw (here key i k, here sheet j s) (sym (both-less (getD key i 0) (getD sheet j 0) (drop (i + 1) key) (drop (j + 1) sheet) (rises-after sheet j s f) h))
+
+  more : getD sheet j 0 < getD key i 0 → both (drop i key) (drop (j + 1) sheet) ≡ both (drop i key) (drop j sheet)
+  more h =
+      rw (here key i k, here sheet j s) (sym (both-more (getD key i 0) (getD sheet j 0) (drop (i + 1) key) (drop (j + 1) sheet) (rises-after key i k e) h))
+
+  same : getD key i 0 ≡ getD sheet j 0 → getD key i 0 ∷ both (drop (i + 1) key) (drop (j + 1) sheet) ≡ both (drop i key) (drop j sheet)
+  same h =
+      let on-sheet = here sheet j s ∙ ap (λ (p : ℕ). p ∷ drop (j + 1) sheet) (sym h) in
+      sym ((λ z. both (here key i k z) (on-sheet z)) ∙ both-same (getD key i 0) (drop (i + 1) key) (drop (j + 1) sheet) (rises-after key i k e))
+
+  -- what a step counts, and what the lists share after it
+  pub step-counted : boolByte (eqb (getD key i 0) (getD sheet j 0))
+      + length (both (drop (i + boolByte (leb (getD key i 0) (getD sheet j 0))) key) (drop (j + boolByte (leb (getD sheet j 0) (getD key i 0))) sheet))
+      ≡ length (both (drop i key) (drop j sheet))
+  step-counted =
+      let a = getD key i 0 in
+      let b = getD sheet j 0 in
+      elim (decLt a b) [
+        | yes h ↦ rw (le-leb a b (omega arith), lt-leb b a h, ne-eqb a b (λ z. omega arith), add-zero j) (omega (arith, ap length (less h)))
+        | no h ↦
+            elim (decLt b a) [
+              | yes m ↦ rw (lt-leb a b m, le-leb b a (omega arith), ne-eqb a b (λ z. omega arith), add-zero i) (omega (arith, ap length (more m)))
+              | no m ↦ rw (le-leb a b (omega arith), le-leb b a (omega arith), eq-eqb a b (omega arith)) (omega (arith, ap length (same (omega arith))))
+            ]
+      ]
+
+-- ---- positions that are the same in both lists
+
+-- one more position of a part
+pub take-more : (l : List ℕ) (i k : ℕ) → i + k < length l → take (k + 1) (drop i l) ≡ take k (drop i l) ++ (getD l (i + k) 0 ∷ [])
+take-more l i k h = rw (add-one k, take-suc (drop i l) k 0 (simp length-drop (omega arith)), getD-drop i l k 0)
+
+module _ (key sheet : List ℕ) (i j n : ℕ) (k : i + n ≤ length key) (e : rising key ≡ true) (eq : take n (drop i key) ≡ take n (drop j sheet)) where
+  pub same-counted : n + length (both (drop (i + n) key) (drop (j + n) sheet)) ≡ length (both (drop i key) (drop j sheet))
+  unfolding rising
+  same-counted =
+      let front = take n (drop i key) in
+      let in-key : drop i key ≡ front ++ drop (i + n) key = sym (take-append-drop n (drop i key)) ∙ ap (λ (l : List ℕ). front ++ l) (drop-drop n i key) in
+      let on-sheet : drop j sheet ≡ front ++ drop (j + n) sheet = sym (take-append-drop n (drop j sheet)) ∙ (λ z. sym eq z ++ drop-drop n j sheet z) in
+      let long : length front ≡ n = length-take-le n (drop i key) (simp length-drop (omega arith)) in
+      let rest = both (drop (i + n) key) (drop (j + n) sheet) in
+      let split = (λ z. both (in-key z) (on-sheet z)) ∙ both-common 0 front (drop (i + n) key) (drop (j + n) sheet) (subst (λ (l : List ℕ). risesFrom 0 l ≡ true) in-key (rises-rest 0 key i e)) in
+      omega (arith, ap length split, length-append front rest)
+
+-- ---- nothing is shared past the end of either
+
+pub past-key : (key sheet : List ℕ) (i j : ℕ) → length key ≤ i → length (both (drop i key) (drop j sheet)) ≡ 0
+unfolding both
+past-key key sheet i j h = rw (drop-of-length-le key h)
+
+pub past-sheet : (key sheet : List ℕ) (i j : ℕ) → length sheet ≤ j → length (both (drop i key) (drop j sheet)) ≡ 0
+past-sheet key sheet i j h = rw (drop-of-length-le sheet h, both-none (drop i key))

@@ -1,0 +1,121 @@
+-- `marking::merge::steps` meets its contract. The loop's invariant: both indices have passed at most a position a step, together at
+-- least one, and what is counted with what the lists share from the indices on is what they share from the first indices on. The
+-- measure is what is left of the steps.
+-- Assumes nothing.
+use Prim.Native.Nat.{_+_, _-_, _≤_}
+use mathlib.Core.Path.{_≡_, refl}
+use native.Mathlib.Omega.{arith}
+use borrow.Author.Needs.{needs}
+use lib.ListN.{length, getD, drop}
+use Rattle.marking.specs.Marks.{both}
+use Rattle.marking.proofs.Merging.{step-moves, step-counted}
+use Rattle.marking.proofs.merge.steps.Statement.{statement}
+use Rattle.marking.proofs.merge.steps.Tie as tie
+
+abbrev Inv-loop : tie.InvT-loop
+Inv-loop key i sheet j most x₀ y₀ right₀ step₀ x y right step =
+    (i ≤ x)
+    × (x ≤ i + step)
+    × (j ≤ y)
+    × (y ≤ j + step)
+    × (i + j + step ≤ x + y)
+    × (right + i ≤ x)
+    × (step ≤ most)
+    × (right + length (both (drop x key) (drop y sheet)) ≡ length (both (drop i key) (drop j sheet)))
+
+abbrev μ-loop : tie.MeasureT-loop
+μ-loop key i sheet j most x₀ y₀ right₀ step₀ x y right step = most - step
+
+loop-holds : tie.Need-loop-holds Inv-loop μ-loop
+loop-holds c = (omega arith, omega arith, omega arith, omega arith, omega arith, omega arith, omega arith, omega arith)
+
+mul-a : tie.Need-mul-a Inv-loop μ-loop
+mul-a c = search needs
+
+shared-slice-read-a : tie.Need-shared-slice-read-a Inv-loop μ-loop
+shared-slice-read-a c = omega arith
+
+mul-b : tie.Need-mul-b Inv-loop μ-loop
+mul-b c = search needs
+
+shared-slice-read-b : tie.Need-shared-slice-read-b Inv-loop μ-loop
+shared-slice-read-b c = omega arith
+
+cast-x : tie.Need-cast-x Inv-loop μ-loop
+cast-x c = search needs
+
+add-x : tie.Need-add-x Inv-loop μ-loop
+add-x c =
+    let a = c .before .before .before .before .args in
+    let l = c .before .before .before .loop in
+    let moves = step-moves (getD (a .key .now) (l .x) 0) (getD (a .sheet .now) (l .y) 0) in
+    omega arith
+
+cast-y : tie.Need-cast-y Inv-loop μ-loop
+cast-y c = search needs
+
+add-y : tie.Need-add-y Inv-loop μ-loop
+add-y c =
+    let a = c .before .before .before .before .args in
+    let l = c .before .before .before .loop in
+    let moves = step-moves (getD (a .key .now) (l .x) 0) (getD (a .sheet .now) (l .y) 0) in
+    omega arith
+
+cast-right : tie.Need-cast-right Inv-loop μ-loop
+cast-right c = search needs
+
+add-right : tie.Need-add-right Inv-loop μ-loop
+add-right c =
+    let a = c .before .before .before .before .args in
+    let l = c .before .before .before .loop in
+    let moves = step-moves (getD (a .key .now) (l .x) 0) (getD (a .sheet .now) (l .y) 0) in
+    omega arith
+
+add-step : tie.Need-add-step Inv-loop μ-loop
+add-step c = omega arith
+
+loop-less : tie.Need-loop-less Inv-loop μ-loop
+loop-less c = omega arith
+
+loop-again : tie.Need-loop-again Inv-loop μ-loop
+loop-again c =
+    let a = c .before .before .before .before .args in
+    let l = c .before .before .before .loop in
+    let moves = step-moves (getD (a .key .now) (l .x) 0) (getD (a .sheet .now) (l .y) 0) in
+    let counted = step-counted (a .key .now) (a .sheet .now) (l .x) (l .y) (omega arith) (omega arith) (c .before .before .before .before .pre .0) (c .before .before .before .before .pre .1 .0) in
+    (omega arith, omega arith, omega arith, omega arith, omega arith, omega arith, omega arith, omega arith)
+
+returns : tie.Need-returns Inv-loop μ-loop
+returns c =
+    let l = c .before .loop in
+    record {
+      on-key = omega arith;
+      in-key = omega arith;
+      on-sheet = omega arith;
+      in-sheet = omega arith;
+      onward = omega arith;
+      counted = l .inv .7;
+      few = omega arith;
+    }
+
+pub steps-spec : {M : Type 1} → statement M
+steps-spec =
+    tie.close
+    (tie.spec
+    Inv-loop
+    μ-loop
+    loop-holds
+    mul-a
+    shared-slice-read-a
+    mul-b
+    shared-slice-read-b
+    cast-x
+    add-x
+    cast-y
+    add-y
+    cast-right
+    add-right
+    add-step
+    loop-less
+    loop-again
+    returns)
