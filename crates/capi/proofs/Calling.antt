@@ -12,62 +12,72 @@ use Rattle.positions.specs.Basics.{fault}
 use Rattle.positions.specs.Encode.{encode}
 use Rattle.positions.specs.Decode.{decode}
 use Rattle.positions.specs.Promise.{refused, writeAnswer, leaves, readAnswer, readCells}
+use Rattle.marking.specs.Sitting as sitting
+use Rattle.marking.specs.Promise.{reportAfter}
 use Rattle.capi.specs.Told.{Told, gives, refuses, answerCellsMissing, unknownMethod, unlessCells, Tells}
 use Rattle.capi.specs.Scan.{methodNamed, known, unknown, Call, requestOf, searchVerdict, Searches}
 use Rattle.capi.specs.ListFile.{countTells, writeVerdict, ListWritten, readVerdict, ListRead}
+use Rattle.capi.specs.Sitting.{sittingTells, sittingVerdict, SittingMarked}
 use Rattle.capi.specs.Inner.{outcomeTells}
 use Rattle.capi.proofs.Telling.{few-cells, enough-cells, refusing}
 
--- ---- the calls that tell one number
+-- ---- the calls that tell one number or three
 
--- `few` is the verdict where there is no answer cell, `own` that of the call below.
-module _ {A : Type 0} (tell : A → Told) (few own : A) (answer : List ℕ) where
-  pub none-told : length answer < 1 → tell few ≡ refuses answerCellsMissing
-      → Tells (tell (unlessCells 1 answer few own)) answer answerCellsMissing answer
-  none-told h e = rw (few-cells 1 answer few own, e) (refusing _ _)
+-- `few` is the verdict where there are fewer answer cells than so many, `own` that of the call below.
+module _ {A : Type 0} {needed : ℕ} (tell : A → Told) (few own : A) (answer : List ℕ) where
+  pub none-told : length answer < needed → tell few ≡ refuses answerCellsMissing
+      → Tells (tell (unlessCells needed answer few own)) answer answerCellsMissing answer
+  none-told h e = rw (few-cells needed answer few own, e) (refusing _ _)
 
-  pub refusal-told : {k r : ℕ} → 1 ≤ length answer → refuses k ≡ tell own → r ≡ k
-      → Tells (tell (unlessCells 1 answer few own)) answer r answer
-  refusal-told h e f = rw (enough-cells 1 answer few own, ← e) (record { result-is = f; answer-is = refl })
+  pub refusal-told : {k r : ℕ} → needed ≤ length answer → refuses k ≡ tell own → r ≡ k
+      → Tells (tell (unlessCells needed answer few own)) answer r answer
+  refusal-told h e f = rw (enough-cells needed answer few own, ← e) (record { result-is = f; answer-is = refl })
 
-  pub number-told : {k r : ℕ} {after : List ℕ} → 1 ≤ length answer → gives (k ∷ []) ≡ tell own
-      → Tells (gives (k ∷ [])) answer r after → Tells (tell (unlessCells 1 answer few own)) answer r after
-  number-told h e t = rw (enough-cells 1 answer few own, ← e) t
+  pub number-told : {numbers : List ℕ} {r : ℕ} {after : List ℕ} → needed ≤ length answer → gives numbers ≡ tell own
+      → Tells (gives numbers) answer r after → Tells (tell (unlessCells needed answer few own)) answer r after
+  number-told h e t = rw (enough-cells needed answer few own, ← e) t
 
--- Two of them fill a buffer, the writer and the reader: `leave` is what a verdict leaves there.
-pub record Filled {A : Type 0} (tell : A → Told) (leave : A → List ℕ) (few own : A) (answer : List ℕ)
+-- Three of them fill a buffer, the writer, the reader and the marking: `leave` is what a verdict leaves there.
+pub record Filled {A : Type 0} (needed : ℕ) (tell : A → Told) (leave : A → List ℕ) (few own : A) (answer : List ℕ)
     (result : ℕ) (buffer answer′ : List ℕ) : Type 0 where
-  pub tells : Tells (tell (unlessCells 1 answer few own)) answer result answer′
-  pub buffer-is : buffer ≡ leave (unlessCells 1 answer few own)
+  pub tells : Tells (tell (unlessCells needed answer few own)) answer result answer′
+  pub buffer-is : buffer ≡ leave (unlessCells needed answer few own)
 
-module _ {A : Type 0} {tell : A → Told} {leave : A → List ℕ} {few own : A} {answer : List ℕ} where
-  pub none-filled : length answer < 1 → tell few ≡ refuses answerCellsMissing
-      → Filled tell leave few own answer answerCellsMissing (leave few) answer
-  none-filled h e = record { tells = none-told tell few own answer h e; buffer-is = rw (few-cells 1 answer few own) }
+module _ {A : Type 0} {needed : ℕ} {tell : A → Told} {leave : A → List ℕ} {few own : A} {answer : List ℕ} where
+  pub none-filled : length answer < needed → tell few ≡ refuses answerCellsMissing
+      → Filled needed tell leave few own answer answerCellsMissing (leave few) answer
+  none-filled h e = record { tells = none-told tell few own answer h e; buffer-is = rw (few-cells needed answer few own) }
 
-  pub refusal-filled : {k r : ℕ} {buffer : List ℕ} → 1 ≤ length answer → refuses k ≡ tell own → buffer ≡ leave own → r ≡ k
-      → Filled tell leave few own answer r buffer answer
+  pub refusal-filled : {k r : ℕ} {buffer : List ℕ} → needed ≤ length answer → refuses k ≡ tell own → buffer ≡ leave own → r ≡ k
+      → Filled needed tell leave few own answer r buffer answer
   refusal-filled h e b f =
-      record { tells = refusal-told tell few own answer h e f; buffer-is = rw (enough-cells 1 answer few own) b }
+      record { tells = refusal-told tell few own answer h e f; buffer-is = rw (enough-cells needed answer few own) b }
 
-  pub number-filled : {k r : ℕ} {buffer after : List ℕ} → 1 ≤ length answer → gives (k ∷ []) ≡ tell own → buffer ≡ leave own
-      → Tells (gives (k ∷ [])) answer r after → Filled tell leave few own answer r buffer after
+  pub number-filled : {numbers : List ℕ} {r : ℕ} {buffer after : List ℕ} → needed ≤ length answer → gives numbers ≡ tell own
+      → buffer ≡ leave own → Tells (gives numbers) answer r after → Filled needed tell leave few own answer r buffer after
   number-filled h e b t =
-      record { tells = number-told tell few own answer h e t; buffer-is = rw (enough-cells 1 answer few own) b }
+      record { tells = number-told tell few own answer h e t; buffer-is = rw (enough-cells needed answer few own) b }
 
 pub written : {list target answer target′ answer′ : List ℕ} {r : ℕ}
-    → Filled countTells (λ v. leaves v (encode list) target) (refused answerCellsMissing) (writeAnswer list (length target)) answer r
+    → Filled 1 countTells (λ v. leaves v (encode list) target) (refused answerCellsMissing) (writeAnswer list (length target)) answer r
     target′ answer′
     → ListWritten list target answer r target′ answer′
 unfolding writeVerdict
 written f = record { tells = f .tells; target-is = f .buffer-is }
 
 pub read : {file cells answer cells′ answer′ : List ℕ} {r : ℕ}
-    → Filled (λ v. countTells (readAnswer v)) (λ v. readCells v cells) (fault answerCellsMissing) (decode file (length cells))
+    → Filled 1 (λ v. countTells (readAnswer v)) (λ v. readCells v cells) (fault answerCellsMissing) (decode file (length cells))
     answer r cells′ answer′
     → ListRead file cells answer r cells′ answer′
 unfolding readVerdict
 read f = record { tells = f .tells; cells-is = f .buffer-is }
+
+pub sat : {key sheets counts report answer report′ answer′ : List ℕ} {r : ℕ}
+    → Filled 3 sittingTells (λ v. reportAfter v report) (sitting.refused answerCellsMissing) (sitting.verdict key sheets counts (length report))
+    answer r report′ answer′
+    → SittingMarked key sheets counts report answer r report′ answer′
+unfolding sittingVerdict
+sat f = record { tells = f .tells; report-is = f .buffer-is }
 
 -- ---- the search call
 

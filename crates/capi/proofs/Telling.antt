@@ -12,6 +12,12 @@ pub one-cell : (l : List ℕ) (a : ℕ) → 1 ≤ length l → set l 0 a ≡ ans
 one-cell [] a h = absurd (omega arith)
 one-cell (x ∷ l) a h = refl
 
+pub three-cells : (l : List ℕ) (a b c : ℕ) → 3 ≤ length l → set (set (set l 0 a) 1 b) 2 c ≡ answerAfter (gives (a ∷ b ∷ c ∷ [])) l
+three-cells [] a b c h = absurd (omega arith)
+three-cells (w ∷ []) a b c h = absurd (omega arith)
+three-cells (w ∷ x ∷ []) a b c h = absurd (omega arith)
+three-cells (w ∷ x ∷ y ∷ l) a b c h = refl
+
 pub four-cells : (l : List ℕ) (a b c d : ℕ) → 4 ≤ length l
     → set (set (set (set l 0 a) 1 b) 2 c) 3 d ≡ answerAfter (gives (a ∷ b ∷ c ∷ d ∷ [])) l
 four-cells [] a b c d h = absurd (omega arith)

@@ -6,5 +6,6 @@ pub mod Told
 pub mod Scan
 pub mod EightBits
 pub mod ListFile
+pub mod Sitting
 pub mod CallList
 pub mod Inner

@@ -1,4 +1,4 @@
-// What an accepted call with one number to tell does: the number goes to the first answer cell, and 0 comes back.
+// What an accepted call with one number or three to tell does: they go to the first answer cells, and 0 comes back.
 ghost use mathlib.Core.List.{[], _∷_};
 ghost use Prim.Native.Nat.{_≤_};
 ghost use lib.ListN.{length};
@@ -9,5 +9,15 @@ pub(crate) fn one(answer: &mut [u64], a: u64) -> u32
     ensures { λ r. ⌜ Tells (gives (a ∷ [])) (now (answer .entry)) r (now (answer .exit)) ⌝ }
 {
     answer[0] = a;
+    0
+}
+
+pub(crate) fn three(answer: &mut [u64], a: u64, b: u64, c: u64) -> u32
+    requires { ⌜ 3 ≤ length (now answer) ⌝ }
+    ensures { λ r. ⌜ Tells (gives (a ∷ b ∷ c ∷ [])) (now (answer .entry)) r (now (answer .exit)) ⌝ }
+{
+    answer[0] = a;
+    answer[1] = b;
+    answer[2] = c;
     0
 }

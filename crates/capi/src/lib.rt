@@ -5,6 +5,7 @@ mod cells;
 mod eight;
 mod lists;
 mod scan;
+mod sitting;
 mod version;
 
 // Two results that document 01 does not have: its calls take a method and not a number, and give an answer back.

@@ -1,0 +1,29 @@
+-- `capi::cells::three` meets its contract: three stores in front of the other cells.
+-- Assumes nothing.
+use mathlib.Core.Path.{refl}
+use native.Mathlib.Omega.{arith}
+use lib.ListN.{length-set}
+use Rattle.capi.proofs.Telling.{three-cells}
+use borrow.Author.Needs.{needs}
+use Rattle.capi.proofs.cells.three.Statement.{statement}
+use Rattle.capi.proofs.cells.three.Tie as tie
+
+slice-write-answer : tie.Need-slice-write-answer
+slice-write-answer c = search needs
+
+slice-write-answer-2 : tie.Need-slice-write-answer-2
+slice-write-answer-2 c = simp length-set (omega arith)
+
+slice-write-answer-3 : tie.Need-slice-write-answer-3
+slice-write-answer-3 c = search needs
+
+same-length : tie.Need-same-length
+same-length c = search needs
+
+returns : tie.Need-returns
+returns c = record { result-is = refl; answer-is = three-cells (c .args .answer .now) (c .args .a) (c .args .b) (c .args .c) (c .pre) }
+
+pub three-spec : {M : Type 1} → statement M
+three-spec =
+    tie.close
+    (tie.spec slice-write-answer slice-write-answer-2 slice-write-answer-3 same-length returns)
