@@ -294,3 +294,19 @@ whole t w calls m =
       within = λ c i. within-by t w (r .calls) all c (r .each-is c i);
       bounded = rw (r .steps, r .mark, r .fulls-are) (all .bounded);
     }
+
+-- The calls of the library that a list of calls from C is, of which the last accepted one stopped with 0: the same places, and done.
+pub record Finished (t : Packed) (w : Pattern) (cs : List Made) : Type 0 where
+  pub calls : List library.Call
+  pub made : library.Made t w 0 calls
+  pub places : joined cs ≡ library.joined calls
+  pub stop : library.lastStop calls ≡ some done
+
+pub finished : (t : Packed) (w : Pattern) (cs : List Made) → AllMade t w 0 cs → lastStop cs ≡ some 0 → Finished t w cs
+finished t w cs m h =
+    let r = same t w cs 0 m in
+    record { calls = r .calls; made = r .made; places = r .places; stop = stopped (library.lastStop (r .calls)) (sym (r .stop) ∙ h) }
+  where
+    stopped : (l : Option Ending) → stopNumbers l ≡ some 0 → l ≡ some done
+    stopped none e = let z : _≡_ {A = ℕ} 0 1 = cc in absurd (omega arith)
+    stopped (some l) e = let is : stopNumber l ≡ 0 = cc in ap some (done-zero l .0 is)

@@ -2,7 +2,8 @@
 use Prim.Native.Nat.{ℕ}
 use mathlib.Core.Path.{_≡_}
 use mathlib.Core.List.{List, [], _∷_}
-use lib.ListN.{length}
+use lib.ListN.{length, getD}
+use Rattle.marking.specs.Marks.{Marks}
 use Rattle.marking.specs.Sitting.{Verdict, refused, verdict}
 use Rattle.marking.specs.Promise.{Answer, totals, number, answerOf, reportAfter}
 use Rattle.capi.specs.Told.{answerCellsMissing, Told, gives, refuses, unlessCells, Tells}
@@ -24,3 +25,8 @@ sittingVerdict key sheets counts report answer =
 pub record SittingMarked (key sheets counts report answer : List ℕ) (result : ℕ) (report′ answer′ : List ℕ) : Type 0 where
   pub tells : Tells (sittingTells (sittingVerdict key sheets counts report answer)) answer result answer′
   pub report-is : report′ ≡ reportAfter (sittingVerdict key sheets counts report answer) report
+
+-- The totals that an accepted call told. Of every accepted call holds what holds in the library, `Holds` of the crate marking, with
+-- these totals: `sat-holds` of proofs/SittingCalls.antt.
+abbrev pub toldTotals : List ℕ → Marks
+toldTotals answer = record { right = getD answer 0 0; missed = getD answer 1 0; false-positives = getD answer 2 0 }

@@ -1,7 +1,7 @@
 -- What holds of every accepted call.
 use Prim.Native.Nat.{ℕ, zero, suc, _+_, _*_, _-_, _≤_, _<_}
 use mathlib.Core.Path.{_≡_, refl, sym, ap, _∙_}
-use mathlib.Core.Bool.{Bool, true, false, not, _&&_}
+use mathlib.Core.Bool.{Bool, true, false, _&&_}
 use mathlib.Core.List.{List, [], _∷_, _++_, map}
 use native.Mathlib.Omega.{arith}
 use native.Mathlib.Decide.{decLe}
@@ -14,9 +14,9 @@ use Rattle.positions.proofs.Rising.{and-both}
 use Rattle.marking.specs.declared.Totals.{Totals}
 use Rattle.marking.specs.declared.Marked.the-variants.{All}
 use Rattle.marking.specs.Marks as sheet
-use Rattle.marking.specs.Marks.{on, keep, only, marks}
+use Rattle.marking.specs.Marks.{marks}
 use Rattle.marking.specs.Sitting.{sum, sheetsOf, allRise, allMarks, reportOf, totalsOf, Verdict, refused, marked, verdict}
-use Rattle.marking.specs.Promise.{totals, totalled, answerOf, reportAfter, Marks}
+use Rattle.marking.specs.Promise.{totalled, answerOf, reportAfter, Marks}
 use Rattle.marking.specs.Holds.{sheetAt, cell, column, Holds}
 use Rattle.marking.proofs.Members.{only-itself}
 use Rattle.marking.proofs.Reporting.{right-missed, right-false}
@@ -57,6 +57,29 @@ judged key cells counts room ms e =
     counted few false h = absurd (never 16 (counts-differ key cells counts room few h))
     counted few true h = risen few h (rising key && allRise (sheetsOf counts cells)) refl
 
+-- every refusal is one of 8, 9, 15, 16
+pub refused-least : (key cells counts : List ℕ) (room k : ℕ) → verdict key cells counts room ≡ refused k → 8 ≤ k
+refused-least key cells counts room k e =
+    elim (decLe (length counts) 256) [
+      | yes few ↦ counted few (eqb (sum counts) (length cells)) refl
+      | no h ↦ least 15 (many-sheets key cells counts room (omega arith)) (omega arith)
+    ]
+  where
+    least : (n : ℕ) → verdict key cells counts room ≡ refused n → 8 ≤ n → 8 ≤ k
+    least n h l = let s : n ≡ k = cc in omega arith
+
+    risen : (few : length counts ≤ 256) (same : eqb (sum counts) (length cells) ≡ true) (b : Bool) → (rising key && allRise (sheetsOf counts cells)) ≡ b → 8 ≤ k
+    risen few same false h = least 8 (not-rising key cells counts room few same h) (omega arith)
+    risen few same true h =
+        elim (decLe (3 * length counts) room) [
+          | yes fits ↦ let m = all-marked key cells counts room few same h fits in let z : _≡_ {A = ℕ} 0 1 = cc in absurd (omega arith)
+          | no f ↦ least 9 (report-short key cells counts room few same h (omega arith)) (omega arith)
+        ]
+
+    counted : length counts ≤ 256 → (b : Bool) → eqb (sum counts) (length cells) ≡ b → 8 ≤ k
+    counted few false h = least 16 (counts-differ key cells counts room few h) (omega arith)
+    counted few true h = risen few h (rising key && allRise (sheetsOf counts cells)) refl
+
 -- ---- a sheet by its number
 
 sheet-length : (counts cells : List ℕ) (i : ℕ) → i < length counts → sum counts ≤ length cells → length (sheetAt counts cells i) ≡ getD counts i 0
@@ -65,7 +88,7 @@ sheet-length [] cells i h k = absurd (omega arith)
 sheet-length (c ∷ cs) cells zero h k = length-take-le c cells (omega arith)
 sheet-length (c ∷ cs) cells (suc i) h k = sheet-length cs (drop c cells) i (omega arith) (simp length-drop (omega arith))
 
-sheet-rises : (counts cells : List ℕ) (i : ℕ) → i < length counts → allRise (sheetsOf counts cells) ≡ true → rising (sheetAt counts cells i) ≡ true
+pub sheet-rises : (counts cells : List ℕ) (i : ℕ) → i < length counts → allRise (sheetsOf counts cells) ≡ true → rising (sheetAt counts cells i) ≡ true
 unfolding sheetsOf allRise
 sheet-rises [] cells i h e = absurd (omega arith)
 sheet-rises (c ∷ cs) cells zero h e = and-both (rising (take c cells)) (allRise (sheetsOf cs (drop c cells))) e .0

@@ -1,8 +1,8 @@
 -- Laws of what a sheet comes to, and of the report and its totals at an index.
 use Prim.Native.Nat.{ℕ, _+_, _*_, _-_, _≤_, _<_}
-use mathlib.Core.Path.{_≡_, refl, sym, ap, _∙_}
+use mathlib.Core.Path.{_≡_, refl, sym, ap}
 use mathlib.Core.Bool.{true}
-use mathlib.Core.List.{List, [], _∷_, _++_, map}
+use mathlib.Core.List.{List, [], _∷_}
 use native.Mathlib.Omega.{arith}
 use lib.ListN.{length, getD, take, drop}
 use lib.Seq.{sets}
@@ -10,8 +10,8 @@ use Rattle.positions.specs.Basics.{limit}
 use Rattle.positions.specs.Encode.{rising}
 use Rattle.positions.proofs.Rising.{rises-length}
 use Rattle.positions.proofs.Stores.{sets-append}
-use Rattle.marking.specs.Marks.{both, only, Marks, marks}
-use Rattle.marking.specs.Sitting.{sum, sheetsOf, allMarks, reportOf, totalsOf}
+use Rattle.marking.specs.Marks.{Marks, marks}
+use Rattle.marking.specs.Sitting.{sum, allMarks, reportOf, totalsOf}
 use Rattle.marking.proofs.Members.{both-only, both-swap}
 use Rattle.marking.proofs.Counting.{part-is, sheets-here, sheets-end}
 

@@ -1,12 +1,12 @@
 -- Laws of the verdict and of what the call promises by it.
-use Prim.Native.Nat.{ℕ, _+_, _*_, _≤_, _<_}
+use Prim.Native.Nat.{ℕ, _*_, _≤_, _<_}
 use mathlib.Core.Path.{_≡_, refl, sym, ap, _∙_}
 use mathlib.Core.Bool.{true, false, _&&_}
-use mathlib.Core.List.{List, [], _∷_, map}
+use mathlib.Core.List.{List, [], _∷_}
 use native.Mathlib.Omega.{arith}
 use borrow.Author.Tests.{lt-ltb, le-ltb}
-use lib.Dec.{ltb, eqb}
-use lib.ListN.{length, drop, take, length-map}
+use lib.Dec.{eqb}
+use lib.ListN.{length, drop, length-map}
 use lib.Seq.{sets}
 use Rattle.positions.specs.Encode.{rising}
 use Rattle.positions.proofs.Stores.{sets-front}

@@ -6,7 +6,6 @@ ghost use Prim.Native.Nat.{_+_, _*_, _≤_};
 ghost use lib.ListN.{length};
 ghost use lib.Seq.{sets};
 ghost use Rattle.positions.specs.Encode.{rising};
-ghost use Rattle.marking.specs.Marks.{marks};
 ghost use Rattle.marking.specs.Sitting.{sum, sheetsOf, allRise, allMarks, reportOf, totalsOf};
 ghost use Rattle.marking.specs.Promise.{totalled};
 ghost use Rattle.marking.specs.Inner.{Sheet};

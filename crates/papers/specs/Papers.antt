@@ -1,5 +1,5 @@
--- The starred rows of "Papers from the course", in document 01's order, and the tail method's rows after them, as one claim about the
--- definitions. The texts R1 and R2 and the patterns V1 and V2 are those of rules/specs/Papers.antt.
+-- The starred rows of "Papers from the course", in document 01's order, and the rows of the tail method and of a sitting after them, as
+-- one claim about the definitions. The texts R1 and R2 and the patterns V1 and V2 are those of rules/specs/Papers.antt.
 use mathlib.Core.Path.{_≡_}
 use mathlib.Core.List.{[], _∷_}
 use mathlib.Core.Option.{some}
@@ -11,6 +11,7 @@ use Rattle.rules.specs.Papers.{R1, V1, R2, V2, empty, ones5, one, ones3, zeros2
 use Rattle.positions.specs.Basics.{ok}
 use Rattle.positions.specs.Encode.{encode}
 use Rattle.positions.specs.Decode.{decode}
+use Rattle.marking.specs.Sitting.{marked, verdict, allMarks, totalsOf}
 
 pub record Papers : Type 0 where
   -- "R1, V1: hit 11 only. R2, V2: 0, 6, 12."
@@ -59,3 +60,12 @@ pub record Papers : Type 0 where
   pub tail-border : tailLength tailText tailPattern 4 ≡ some 0
   pub tail-marks-3 : marks Tail tailText tailPattern 3 ≡ 0 ∷ 1 ∷ 4 ∷ 5 ∷ []
   pub tail-run-3 : wholeRun Tail tailText tailPattern 1000 ≡ record { steps = 3; written = 4 ∷ []; mark = 5; ending = done }
+  -- Marking: the key of R2 and V2, and three sheets: the key itself; one place wrong; nothing. A sheet may begin below the end of the one
+  -- before it.
+  pub sitting : verdict (allOccurrences R2 V2) (0 ∷ 6 ∷ 12 ∷ 0 ∷ 7 ∷ 12 ∷ []) (3 ∷ 3 ∷ 0 ∷ []) 9
+      ≡ marked
+      (record { right = 3; missed = 0; false-positives = 0 }
+      ∷ record { right = 2; missed = 1; false-positives = 1 }
+      ∷ record { right = 0; missed = 3; false-positives = 0 }
+      ∷ [])
+  pub sitting-totals : totalsOf (allMarks (allOccurrences R2 V2) (3 ∷ 3 ∷ 0 ∷ []) (0 ∷ 6 ∷ 12 ∷ 0 ∷ 7 ∷ 12 ∷ [])) ≡ record { right = 5; missed = 4; false-positives = 1 }

@@ -9,7 +9,7 @@ use native.Mathlib.Omega.{arith}
 use borrow.Author.Needs.{needs}
 use borrow.Author.Tests.{eqb-true}
 use lib.Dec.{eqb}
-use lib.ListN.{length, getD, take, drop}
+use lib.ListN.{getD, take, drop}
 use Rattle.positions.proofs.Rising.{and-both}
 use Rattle.marking.proofs.Merging.{take-more}
 use Rattle.marking.proofs.merge.eight_same.Statement.{statement}
