@@ -1,6 +1,6 @@
 /*
- * Mitongory: exact search for a pattern of bits in a text of packed bits, by five methods, and a file format for lists
- * of positions.
+ * Mitongory: exact search for a pattern of bits in a text of packed bits, by five methods, a file format for lists of
+ * positions, and the marking of such lists against a key.
  *
  * These are the calls of the static library libmitongory.a for x86-64 Linux, which needs the C library and nothing else.
  * `make lib` builds it and `make install` installs it. A program is then built by
@@ -75,10 +75,10 @@ extern "C" {
 /* The version of this header. */
 #define MITONGORY_VERSION_MAJOR 0
 #define MITONGORY_VERSION_MINOR 3
-#define MITONGORY_VERSION_PATCH 0
+#define MITONGORY_VERSION_PATCH 1
 #define MITONGORY_VERSION_NUMBER \
     (MITONGORY_VERSION_MAJOR * 10000 + MITONGORY_VERSION_MINOR * 100 + MITONGORY_VERSION_PATCH)
-#define MITONGORY_VERSION "0.3.0"
+#define MITONGORY_VERSION "0.3.1"
 
 /*
  * The version of the library, as a number. The name holds the version of the interface, so that a program that was
@@ -99,11 +99,18 @@ static inline uint32_t mitongory_version(void)
 static uint32_t (*const mitongory_version_needed)(void) __attribute__((used)) = mitongory_version_0_3;
 #endif
 
-/* The cells that a search needs in `scratch`, and in `answer`. The other calls need one answer cell. */
+/* The cells that a search needs in `scratch`, and in `answer`. */
 #define MITONGORY_SCRATCH_CELLS 4224
 #define MITONGORY_ANSWER_CELLS 4
 
-/* What a call returns. 1 to 14 are the numbers of the requirements; 100 and 101 exist only in this interface. */
+/*
+ * The most sheets of a sitting, and the cells that it needs in `report` for each sheet, and in `answer`. All other calls
+ * need one answer cell.
+ */
+#define MITONGORY_SHEETS 256
+#define MITONGORY_MARK_CELLS 3
+
+/* What a call returns. 1 to 16 are the numbers of the requirements; 100 and 101 exist only in this interface. */
 enum mitongory_result {
     MITONGORY_OK = 0,
     MITONGORY_TEXT_TOO_LONG = 1,         /* n above 2^30 */
@@ -113,13 +120,15 @@ enum mitongory_result {
     MITONGORY_PATTERN_UNFIT = 5,         /* m below 8 for hash and H, below 15 for skip, above 64 for tail */
     MITONGORY_BEYOND_END = 6,            /* mark above the number of places; place + 8 above n */
     MITONGORY_SCRATCH_TOO_SHORT = 7,     /* fewer than MITONGORY_SCRATCH_CELLS cells */
-    MITONGORY_LIST_NOT_RISING = 8,       /* positions not strictly rising, or one is 2^30 or more */
-    MITONGORY_TARGET_TOO_SHORT = 9,      /* fewer target bytes than the list's file has */
+    MITONGORY_LIST_NOT_RISING = 8,       /* a list of positions that does not rise strictly, or holds 2^30 or more */
+    MITONGORY_TARGET_TOO_SHORT = 9,      /* fewer target bytes than the list's file has; fewer than three report cells a sheet */
     MITONGORY_FILE_ENDS_EARLY = 10,      /* the file ends early */
     MITONGORY_NUMBER_NOT_SHORTEST = 11,  /* a number of the file is not in the fewest groups */
     MITONGORY_NUMBER_TOO_LARGE = 12,     /* a number above 2^30, or a position of 2^30 or more */
     MITONGORY_BYTES_LEFT_OVER = 13,      /* bytes are left over after the list */
     MITONGORY_CELLS_MISSING = 14,        /* fewer cells than the file's count */
+    MITONGORY_TOO_MANY_SHEETS = 15,      /* more than MITONGORY_SHEETS sheets */
+    MITONGORY_COUNTS_DIFFER = 16,        /* the counts of the sheets do not add up to their positions */
     MITONGORY_UNKNOWN_METHOD = 100,      /* the method is none of enum mitongory_method */
     MITONGORY_ANSWER_CELLS_MISSING = 101 /* fewer answer cells than the call needs */
 };
@@ -138,13 +147,16 @@ static inline const char *mitongory_result_text(uint32_t result)
                "tail 64 or fewer.";
     case MITONGORY_BEYOND_END: return "The mark is above the number of places, or there are fewer than eight bits from the place on.";
     case MITONGORY_SCRATCH_TOO_SHORT: return "The scratch has fewer than 4224 cells.";
-    case MITONGORY_LIST_NOT_RISING: return "The positions do not rise strictly, or one is 2^30 or more.";
-    case MITONGORY_TARGET_TOO_SHORT: return "The target has fewer bytes than the list's file.";
+    case MITONGORY_LIST_NOT_RISING: return "A list of positions does not rise strictly, or holds 2^30 or more.";
+    case MITONGORY_TARGET_TOO_SHORT:
+        return "The target has fewer bytes than the list's file, or the report fewer than three cells for each sheet.";
     case MITONGORY_FILE_ENDS_EARLY: return "The file ends early.";
     case MITONGORY_NUMBER_NOT_SHORTEST: return "A number of the file is not in the fewest groups.";
     case MITONGORY_NUMBER_TOO_LARGE: return "A number of the file is above 2^30, or a position is 2^30 or more.";
     case MITONGORY_BYTES_LEFT_OVER: return "Bytes are left over after the list.";
     case MITONGORY_CELLS_MISSING: return "There are fewer cells than the file's count.";
+    case MITONGORY_TOO_MANY_SHEETS: return "There are more than 256 sheets.";
+    case MITONGORY_COUNTS_DIFFER: return "The counts of the sheets do not add up to the number of their positions.";
     case MITONGORY_UNKNOWN_METHOD: return "The method is none of the five.";
     case MITONGORY_ANSWER_CELLS_MISSING: return "There are fewer answer cells than the call needs.";
     default: return "No call returns this number.";
@@ -173,6 +185,13 @@ enum mitongory_stop {
     MITONGORY_DONE = 0, /* every place is decided */
     MITONGORY_FULL = 1, /* a further occurrence is at the mark, and the list had no free cell for it */
     MITONGORY_SPENT = 2 /* the budget of steps is spent */
+};
+
+/* The report cells of a sheet, and the answer cells of a sitting that is accepted. */
+enum mitongory_marks {
+    MITONGORY_RIGHT = 0,          /* positions of the key that are on the sheet */
+    MITONGORY_MISSED = 1,         /* positions of the key only */
+    MITONGORY_FALSE_POSITIVES = 2 /* positions of the sheet only */
 };
 
 /*
@@ -239,6 +258,27 @@ uint32_t mitongory_list_write(const uint32_t *list, size_t list_len, uint8_t *ta
  */
 uint32_t mitongory_list_read(const uint8_t *file, size_t file_len, uint32_t *cells, size_t cells_len,
                              uint64_t *answer, size_t answer_len);
+
+/*
+ * Marks a sitting: up to MITONGORY_SHEETS sheets against one key. The key is a list of positions, and so is each sheet.
+ * For each sheet in turn the report gets three cells, in the order of enum mitongory_marks: right, missed, false positives.
+ * The answer gets their sums over all sheets. Right + missed is the key's length, and right + false positives the sheet's.
+ * Where the key is the list of all occurrences of a pattern, right counts the occurrences that are on the sheet. With no
+ * sheets the sums are 0, and the key is judged all the same.
+ *
+ *   key      positions below 2^30 that rise strictly
+ *   sheets   the positions of all sheets, one sheet after the other; each sheet rises by itself, as the key does
+ *   counts   how many positions each sheet has, 0 or more; together they are sheets_len
+ *   report   at least MITONGORY_MARK_CELLS cells for each sheet; the cells after those stay
+ *   answer   at least MITONGORY_MARK_CELLS cells
+ *
+ * Returns 0, or the first of 101, 15, 16, 8, 9 that applies. A sum of counts that does not fit 64 bits is 16 too.
+ */
+uint32_t mitongory_mark_sitting(const uint32_t *key, size_t key_len,
+                                const uint32_t *sheets, size_t sheets_len,
+                                const uint64_t *counts, size_t counts_len,
+                                uint32_t *report, size_t report_len,
+                                uint64_t *answer, size_t answer_len);
 
 #ifdef __cplusplus
 }
