@@ -4,20 +4,12 @@
 
 #include "bounds.h"
 #include "check.h"
+#include "draw.h"
 #include "papers.h"
 #include "parts.h"
 #include "search_call.h"
 
-enum { ROUNDS = 400, SEED = 20240501, MOST_BYTES = 64, SHORT_PATTERN = 24, LONG_PATTERN = 200 };
-
-static uint32_t state = SEED;
-
-/* A number below `below`. */
-static uint64_t draw(uint64_t below)
-{
-    state = state * 1664525u + 1013904223u;
-    return (state >> 8) % below;
-}
+enum { ROUNDS = 400, MOST_BYTES = 64, SHORT_PATTERN = 24, LONG_PATTERN = 200 };
 
 static size_t every_place(const uint8_t *text, uint64_t n, const uint8_t *pattern, uint64_t m, uint32_t *places)
 {
