@@ -1,4 +1,4 @@
-/* What the header itself defines: the version, and a sentence for every result. */
+/* What the header itself defines: the version, the numbers of a sitting, and a sentence for every result. */
 #include <mitongory.h>
 #include <stdio.h>
 #include <string.h>
@@ -23,6 +23,8 @@ static const uint32_t results[] = {
     MITONGORY_NUMBER_TOO_LARGE,
     MITONGORY_BYTES_LEFT_OVER,
     MITONGORY_CELLS_MISSING,
+    MITONGORY_TOO_MANY_SHEETS,
+    MITONGORY_COUNTS_DIFFER,
     MITONGORY_UNKNOWN_METHOD,
     MITONGORY_ANSWER_CELLS_MISSING};
 
@@ -32,11 +34,20 @@ static void version(void)
 {
     char text[40];
     about("version");
-    check(MITONGORY_VERSION_NUMBER == 300, "number of the header");
+    check(MITONGORY_VERSION_NUMBER == 301, "number of the header");
     check(mitongory_version() == MITONGORY_VERSION_NUMBER, "number of the library");
     check(mitongory_version_0_3() == mitongory_version(), "the two functions");
     snprintf(text, sizeof text, "%d.%d.%d", MITONGORY_VERSION_MAJOR, MITONGORY_VERSION_MINOR, MITONGORY_VERSION_PATCH);
     check(strcmp(text, MITONGORY_VERSION) == 0, "text");
+}
+
+static void numbers_of_a_sitting(void)
+{
+    about("a sitting");
+    check(MITONGORY_SHEETS == 256, "sheets");
+    check(MITONGORY_MARK_CELLS == 3, "cells of a sheet");
+    check(MITONGORY_RIGHT == 0 && MITONGORY_MISSED == 1 && MITONGORY_FALSE_POSITIVES == 2, "the order of the cells");
+    check(MITONGORY_TOO_MANY_SHEETS == 15 && MITONGORY_COUNTS_DIFFER == 16, "refusals");
 }
 
 static int is_result(uint32_t number)
@@ -75,5 +86,6 @@ static void result_texts(void)
 void header(void)
 {
     version();
+    numbers_of_a_sitting();
     result_texts();
 }

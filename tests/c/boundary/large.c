@@ -1,4 +1,4 @@
-/* The largest text, and lengths of 33 bits. */
+/* The largest text, lengths of 33 bits, and a total of 33 bits. */
 #define _DEFAULT_SOURCE
 #include <mitongory.h>
 #include <string.h>
@@ -182,6 +182,50 @@ static void long_lists(void)
               answer[0] == 1,
           "cells");
     check(cells[0] == 5 && cells[1] == 0, "what those cells hold");
+    clear(sizeof *cells);
+}
+
+/* A key of the second paper's occurrences, and the same as a sheet. */
+static void long_sittings(void)
+{
+    const uint32_t *key = paper2_occurrences;
+    const size_t key_len = PAPER2_OCCURRENCES;
+    const uint64_t count = PAPER2_OCCURRENCES, none = 0, all = length;
+    uint32_t report[MITONGORY_MARK_CELLS], *cells = huge;
+    uint64_t *told = huge;
+    about("a sitting with a length of 33 bits");
+    check(mitongory_mark_sitting(huge, length, key, key_len, &count, 1, report, 3, answer, 3) == MITONGORY_LIST_NOT_RISING,
+          "key of zeros");
+    check(mitongory_mark_sitting(key, key_len, huge, length, &none, 1, report, 3, answer, 3) == MITONGORY_COUNTS_DIFFER,
+          "sheets, and a count of 0");
+    check(mitongory_mark_sitting(key, key_len, huge, length, &all, 1, report, 3, answer, 3) == MITONGORY_LIST_NOT_RISING,
+          "sheet of zeros");
+    check(mitongory_mark_sitting(key, key_len, key, 0, huge, length, report, 3, answer, 3) == MITONGORY_TOO_MANY_SHEETS,
+          "counts");
+    check(mitongory_mark_sitting(key, key_len, key, key_len, &count, 1, huge, length, answer, 3) == MITONGORY_OK, "report");
+    check(cells[MITONGORY_RIGHT] == count && cells[MITONGORY_MISSED] == 0, "what that report holds");
+    clear(sizeof report);
+    check(mitongory_mark_sitting(key, key_len, key, key_len, &count, 1, report, 3, huge, length) == MITONGORY_OK, "answer");
+    check(told[MITONGORY_RIGHT] == count && told[MITONGORY_MISSED] == 0, "what that answer holds");
+    clear(sizeof answer);
+}
+
+/* As many positions as make 2^32 when each of 256 empty sheets misses them all. */
+static void long_total(void)
+{
+    static const uint64_t counts[MITONGORY_SHEETS];
+    static uint32_t report[MITONGORY_SHEETS * MITONGORY_MARK_CELLS];
+    const uint32_t key_len = (uint32_t)(TWO_TO_32 / MITONGORY_SHEETS), last = (MITONGORY_SHEETS - 1) * MITONGORY_MARK_CELLS;
+    uint32_t *key = huge, i;
+    about("a total of 33 bits");
+    for (i = 0; i < key_len; i++)
+        key[i] = i;
+    check(mitongory_mark_sitting(key, key_len, key, 0, counts, MITONGORY_SHEETS, report, sizeof report / sizeof *report,
+                                 answer, MITONGORY_MARK_CELLS) == MITONGORY_OK,
+          "result");
+    check(report[last + MITONGORY_MISSED] == key_len, "what the last sheet misses");
+    check(answer[MITONGORY_RIGHT] == 0 && answer[MITONGORY_MISSED] == TWO_TO_32 && answer[MITONGORY_FALSE_POSITIVES] == 0,
+          "answer");
 }
 
 static void lengths_of_33_bits(void)
@@ -192,6 +236,8 @@ static void lengths_of_33_bits(void)
     long_searches();
     long_values();
     long_lists();
+    long_sittings();
+    long_total();
     munmap(huge, bytes);
 }
 

@@ -15,6 +15,8 @@ int main(void)
     drawn();
     values();
     lists();
+    sitting();
+    drawn_sittings();
     pointers();
     large();
     header();

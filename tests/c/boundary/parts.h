@@ -6,6 +6,8 @@ void searches(void);
 void drawn(void);
 void values(void);
 void lists(void);
+void sitting(void);
+void drawn_sittings(void);
 void pointers(void);
 void large(void);
 void header(void);

@@ -12,10 +12,14 @@ static uint64_t scratch[MITONGORY_SCRATCH_CELLS], answer[MITONGORY_ANSWER_CELLS]
 #define SEARCH(m, method, answer, answer_len)                                                                              \
     mitongory_search(nowhere, 0, 0, nowhere, 0, m, method, 0, 0, nowhere, 0, nowhere, 0, answer, answer_len)
 
+/* A sitting of no sheets or of an empty one, in which only the answer may be a buffer that is not empty. */
+#define SITTING(sheets, answer, answer_len)                                                                                \
+    mitongory_mark_sitting(nowhere, 0, nowhere, 0, sheets == 0 ? nowhere : &none, sheets, nowhere, 0, answer, answer_len)
+
 /* Every call with every buffer empty, then all but the answer. */
 static void empty_buffers(const char *name, void *nowhere)
 {
-    const uint64_t m = 8;
+    const uint64_t m = 8, none = 0;
     about(name);
     check(SEARCH(0, MITONGORY_PLAIN, nowhere, 0) == MITONGORY_ANSWER_CELLS_MISSING, "search");
     check(SEARCH(0, MITONGORY_TAIL + 1, nowhere, 0) == MITONGORY_UNKNOWN_METHOD, "search by method 5");
@@ -33,6 +37,11 @@ static void empty_buffers(const char *name, void *nowhere)
     check(mitongory_list_read(nowhere, 0, nowhere, 0, answer, 1) == MITONGORY_FILE_ENDS_EARLY, "an empty file");
     check(mitongory_list_read((const uint8_t *)"", 1, nowhere, 0, answer, 1) == MITONGORY_OK && answer[0] == 0,
           "the empty list's file");
+    check(SITTING(0, nowhere, 0) == MITONGORY_ANSWER_CELLS_MISSING, "sitting");
+    check(SITTING(0, answer, 3) == MITONGORY_OK && answer[MITONGORY_RIGHT] == 0 && answer[MITONGORY_MISSED] == 0 &&
+              answer[MITONGORY_FALSE_POSITIVES] == 0,
+          "no sheets");
+    check(SITTING(1, answer, 3) == MITONGORY_TARGET_TOO_SHORT, "an empty sheet, no report");
     check(mitongory_search(nowhere, 0, 0, paper1_pattern, PAPER1_PATTERN_BYTES, PAPER1_M, MITONGORY_PLAIN, 0, 1, nowhere, 0,
                            scratch, MITONGORY_SCRATCH_CELLS, answer, 4) == MITONGORY_OK,
           "an empty text and an empty list");
@@ -44,7 +53,16 @@ static void empty_buffers(const char *name, void *nowhere)
 static void same_buffer(void)
 {
     const uint8_t *both = paper2_pattern;
+    const uint32_t *key = paper2_occurrences;
+    const uint64_t count = PAPER2_OCCURRENCES;
     uint32_t list[4] = {1, 1, 1, 1};
+    about("one buffer as key and sheet");
+    check(mitongory_mark_sitting(key, PAPER2_OCCURRENCES, key, PAPER2_OCCURRENCES, &count, 1, list, 4, answer, 4) ==
+              MITONGORY_OK,
+          "result");
+    check(list[MITONGORY_RIGHT] == count && list[MITONGORY_MISSED] == 0 && list[MITONGORY_FALSE_POSITIVES] == 0 &&
+              list[MITONGORY_MARK_CELLS] == 1,
+          "report");
     about("one buffer as text and pattern");
     check(mitongory_search(both, PAPER2_PATTERN_BYTES, PAPER2_M, both, PAPER2_PATTERN_BYTES, PAPER2_M, MITONGORY_WIDE, 0, 9,
                            list, 4, scratch, MITONGORY_SCRATCH_CELLS, answer, 4) == MITONGORY_OK,
