@@ -74,6 +74,18 @@ mod raw {
             answer: *mut u64,
             answer_len: usize,
         ) -> u32;
+        pub(super) fn mitongory_mark_sitting(
+            key: *const u32,
+            key_len: usize,
+            sheets: *const u32,
+            sheets_len: usize,
+            counts: *const u64,
+            counts_len: usize,
+            report: *mut u32,
+            report_len: usize,
+            answer: *mut u64,
+            answer_len: usize,
+        ) -> u32;
     }
 }
 
@@ -166,6 +178,27 @@ pub fn list_read(file: &[u8], cells: &mut [u32], answer: &mut [u64]) -> u32 {
             file.len(),
             cells.as_mut_ptr(),
             cells.len(),
+            answer.as_mut_ptr(),
+            answer.len(),
+        )
+    }
+}
+
+/// Marks sheets against a key. The positions of all sheets lie one after the other in `sheets`, and `counts` has how many
+/// each sheet has. The report gets three cells for each sheet: right, missed, false positives; the answer's first three
+/// cells are their sums.
+pub fn mark_sitting(key: &[u32], sheets: &[u32], counts: &[u64], report: &mut [u32], answer: &mut [u64]) -> u32 {
+    // SAFETY: each pointer and length come from one live slice, and the `&mut` slices overlap nothing.
+    unsafe {
+        raw::mitongory_mark_sitting(
+            key.as_ptr(),
+            key.len(),
+            sheets.as_ptr(),
+            sheets.len(),
+            counts.as_ptr(),
+            counts.len(),
+            report.as_mut_ptr(),
+            report.len(),
             answer.as_mut_ptr(),
             answer.len(),
         )

@@ -2,7 +2,8 @@
 //!
 //! The crate lists every place where a *pattern* of 1 to 2,048 bits occurs in a *text* of up to 2^30 bits. A place is a
 //! bit number: a pattern may occur from any bit on, not only where a byte begins, and occurrences may overlap. There are
-//! five methods of searching, which find the same occurrences, and a file format for lists of positions.
+//! five methods of searching, which find the same occurrences, and a file format for lists of positions. Such lists can
+//! be marked against a key.
 //!
 //! The work is done by a library in which every function is proved to meet its contract. It is linked as a static
 //! archive. This crate gives its calls Rust types and adds no rule of its own. It has no dependencies.
@@ -122,17 +123,34 @@
 //! # }
 //! ```
 //!
+//! # Marking a sitting
+//!
+//! [`marking`] compares lists of positions with a key, up to 256 of them in one call, and counts for each what is right,
+//! what is missed and what is false:
+//!
+//! ```
+//! use mitongory::marking::{mark_sitting, Marks};
+//!
+//! # fn main() -> Result<(), mitongory::Refusal> {
+//! let sitting = mark_sitting(&[0, 6, 12], &[[0, 6, 12], [0, 7, 12]])?;
+//! assert_eq!(sitting.marks[1], Marks { right: 2, missed: 1, false_positives: 1 });
+//! assert_eq!(sitting.totals.right, 5);
+//! # Ok(())
+//! # }
+//! ```
+//!
 //! # What is proved
 //!
 //! For every input, refusals included, each call of the library answers as its short definition says and leaves every
 //! buffer as that says; and the calls of a search, joined, list every occurrence once (see [`search`]). The proofs end
 //! at the archive. This crate's Rust code, its declarations of the calls, and the compiler and linker are not proved:
-//! the crate is tested against a naive search and a naive codec. One module has `unsafe` code, around the calls.
+//! the crate is tested against a naive search, a naive codec and naive marking. One module has `unsafe` code, around the calls.
 
 mod bits;
 mod call;
 #[doc(hidden)]
 pub mod ffi;
+pub mod marking;
 mod method;
 mod occurrences;
 mod packed;

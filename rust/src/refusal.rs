@@ -4,8 +4,8 @@ use std::fmt;
 
 /// Why a call was refused. A refused call changes nothing: no cell, no byte, no mark.
 ///
-/// A search is refused with the lowest number that applies, a file with its first fault from front to back. Where none
-/// applies, the call is accepted.
+/// A search is refused with the lowest number that applies, a file with its first fault from front to back, a sitting
+/// with the first of 15, 16, 8 and 9. Where none applies, the call is accepted.
 ///
 /// ```
 /// use mitongory::{Pattern, Refusal};
@@ -32,9 +32,10 @@ pub enum Refusal {
     BeyondEnd = 6,
     /// The scratch has fewer than 4,224 cells. A [`Scratch`](crate::Scratch) never has.
     ScratchTooShort = 7,
-    /// The positions do not rise strictly, or one is 2^30 or more.
+    /// A list of positions, such as a key or a sheet, does not rise strictly, or holds 2^30 or more.
     ListNotRising = 8,
-    /// The target has fewer bytes than the list's file.
+    /// The target has fewer bytes than the list's file; or the report of a sitting fewer than three cells for each
+    /// sheet, which [`mark_sitting`](crate::marking::mark_sitting) never has.
     TargetTooShort = 9,
     /// The file ends early.
     FileEndsEarly = 10,
@@ -46,6 +47,11 @@ pub enum Refusal {
     BytesLeftOver = 13,
     /// There are fewer cells than the file's count.
     CellsMissing = 14,
+    /// There are more than 256 sheets.
+    TooManySheets = 15,
+    /// The counts of the sheets do not add up to the number of their positions.
+    /// [`mark_sitting`](crate::marking::mark_sitting) has the right counts always.
+    CountsDiffer = 16,
 }
 
 impl Refusal {
@@ -54,7 +60,7 @@ impl Refusal {
     /// ```
     /// use mitongory::Refusal;
     ///
-    /// assert!(Refusal::ALL.iter().map(|refusal| refusal.number()).eq(1..=14));
+    /// assert!(Refusal::ALL.iter().map(|refusal| refusal.number()).eq(1..=16));
     /// ```
     pub const ALL: &'static [Refusal] = &[
         Refusal::TextTooLong,
@@ -71,9 +77,11 @@ impl Refusal {
         Refusal::NumberTooLarge,
         Refusal::BytesLeftOver,
         Refusal::CellsMissing,
+        Refusal::TooManySheets,
+        Refusal::CountsDiffer,
     ];
 
-    /// The number in the requirements, 1 to 14.
+    /// The number in the requirements, 1 to 16.
     ///
     /// ```
     /// assert_eq!(mitongory::Refusal::BeyondEnd.number(), 6);
@@ -112,13 +120,17 @@ impl fmt::Display for Refusal {
                 "the mark is above the number of places, or there are fewer than eight bits from the place on"
             }
             Refusal::ScratchTooShort => "the scratch has fewer than 4,224 cells",
-            Refusal::ListNotRising => "the positions do not rise strictly below 2^30",
-            Refusal::TargetTooShort => "the target has fewer bytes than the list's file",
+            Refusal::ListNotRising => "a list of positions does not rise strictly below 2^30",
+            Refusal::TargetTooShort => {
+                "the target has fewer bytes than the list's file, or the report fewer than three cells for each sheet"
+            }
             Refusal::FileEndsEarly => "the file ends early",
             Refusal::NumberNotShortest => "a number of the file is not in the fewest groups",
             Refusal::NumberTooLarge => "a number or a position of the file is too large",
             Refusal::BytesLeftOver => "bytes are left over after the list",
             Refusal::CellsMissing => "there are fewer cells than the file's count",
+            Refusal::TooManySheets => "there are more than 256 sheets",
+            Refusal::CountsDiffer => "the counts of the sheets do not add up to the number of their positions",
         };
         write!(f, "refusal {}: {why}", self.number())
     }

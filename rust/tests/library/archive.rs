@@ -20,7 +20,7 @@ fn version_of_the_crate() {
     let minor = part(env!("CARGO_PKG_VERSION_MINOR"));
     let patch = part(env!("CARGO_PKG_VERSION_PATCH"));
     assert_eq!(ffi::version(), major * 10_000 + minor * 100 + patch);
-    assert_eq!(ffi::version(), 300);
+    assert_eq!(ffi::version(), 301);
     let declared = include_str!("../../src/ffi.rs");
     assert!(declared.contains(&format!("mitongory_version_{major}_{minor}()")));
 }

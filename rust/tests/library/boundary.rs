@@ -42,7 +42,7 @@ fn numbers_of_32_bits() {
     assert_eq!(search(&text, n, &[0x80], 1, [0, n as u32, ALL], &mut []), (0, [0, 0, n, 0]));
 }
 
-/// Every bit of the 64 bits of n and m counts.
+/// Every bit of the 64 bits of n, of m and of a sheet's count counts.
 #[test]
 fn counts_of_64_bits() {
     let bytes = [0xff; 300];
@@ -55,6 +55,12 @@ fn counts_of_64_bits() {
         let more = 1u64 << bit;
         assert_eq!(search(&bytes, 16, &bytes, more | 8, [0, 0, ALL], &mut []), (3, UNCHANGED));
         assert_eq!(ffi::hash_value(&bytes, more | 8, 0, &mut [9]), 3);
+    }
+    for bit in 0..64 {
+        assert_eq!(ffi::mark_sitting(&[], &[4, 5, 6], &[3 ^ 1 << bit], &mut [0; 3], &mut [9; 3]), 16);
+        let wrapping = [1 << bit, 3u64.wrapping_sub(1 << bit)];
+        let want = if bit < 2 { 0 } else { 16 };
+        assert_eq!(ffi::mark_sitting(&[], &[4, 5, 6], &wrapping, &mut [0; 6], &mut [9; 3]), want);
     }
     assert_eq!(search(&bytes, u64::MAX, &bytes, u64::MAX, [0, ALL, ALL], &mut []).0, 1);
     assert_eq!(search(&bytes, 16, &bytes, u64::MAX, [3, ALL, ALL], &mut []).0, 3);
@@ -82,6 +88,16 @@ fn lengths() {
         assert_eq!((said, answer), (0, [1, places, places, u64::from(cells < 64)]));
         assert!(list.iter().enumerate().all(|(i, &cell)| cell == if i < 64 { i as u32 } else { 7 }));
     }
+    for cells in 0..=12 {
+        let (mut report, mut answer) = (vec![7; cells], [9; 4]);
+        let said = ffi::mark_sitting(&[0, 6, 12], &[0, 6, 12, 0, 7, 12], &[3, 3, 0], &mut report, &mut answer);
+        if cells < 9 {
+            assert_eq!((said, report, answer), (9, vec![7; cells], UNCHANGED));
+        } else {
+            assert_eq!((said, answer), (0, [5, 4, 1, 9]));
+            assert_eq!(report, [&[3, 0, 0, 2, 1, 1, 0, 3, 0], &[7; 3][..cells - 9]].concat());
+        }
+    }
     for answer in 0..6 {
         let want = if answer < 1 { 101 } else { 0 };
         let mut cells = vec![9; answer];
@@ -90,6 +106,8 @@ fn lengths() {
         assert_eq!(ffi::list_read(&[0], &mut [], &mut cells), want);
         assert_eq!(ffi::hash_value(&[0], 8, 0, &mut cells), want);
         assert_eq!(ffi::eight_bits(&[0], 8, 0, &mut cells), want);
+        let want = if answer < 3 { 101 } else { 0 };
+        assert_eq!(ffi::mark_sitting(&[], &[], &[], &mut [], &mut cells), want);
         let want = if answer < 4 { 101 } else { 0 };
         assert_eq!(ffi::search(&[], 0, &[0], 1, 0, 0, 0, &mut [], &mut [0; 4_224], &mut cells), want);
     }
@@ -111,6 +129,10 @@ fn nothing_lent() {
     assert_eq!(ffi::list_write(&[], &mut [], &mut [0]), 9);
     assert_eq!(ffi::list_read(&[], &mut [], &mut []), 101);
     assert_eq!(ffi::list_read(&[], &mut [], &mut [0]), 10);
+    let mut answer = [9; 3];
+    assert_eq!(ffi::mark_sitting(&[], &[], &[], &mut [], &mut []), 101);
+    assert_eq!(ffi::mark_sitting(&[], &[], &[0], &mut [], &mut answer), 9);
+    assert_eq!((ffi::mark_sitting(&[], &[], &[], &mut [], &mut answer), answer), (0, [0; 3]));
 }
 
 /// Slices of bytes at every address modulo 8, since they need no alignment.

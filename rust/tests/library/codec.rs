@@ -10,9 +10,14 @@ fn number(mut x: u64, file: &mut Vec<u8>) {
     file.push(x as u8);
 }
 
+/// The positions rise strictly, and all are below the limit.
+pub fn rises(list: &[u32]) -> bool {
+    list.iter().all(|&p| u64::from(p) < LIMIT) && list.windows(2).all(|pair| pair[0] < pair[1])
+}
+
 /// The file of a list, or 8.
 pub fn encode(list: &[u32]) -> Result<Vec<u8>, u32> {
-    if list.iter().any(|&p| u64::from(p) >= LIMIT) || list.windows(2).any(|pair| pair[0] >= pair[1]) {
+    if !rises(list) {
         return Err(8);
     }
     let mut file = Vec::new();

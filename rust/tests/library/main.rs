@@ -1,10 +1,11 @@
-//! The crate and the library under it, held to the rules read bit by bit (`rules`) and to a codec written from the
-//! file's rules (`codec`). Every draw comes from one seed, which is printed; `MITONGORY_SEED` sets another.
+//! The crate and the library under it, held to the rules read bit by bit (`rules`), to a codec written from the file's
+//! rules (`codec`) and to marking by sets (`sets`). Every draw comes from one seed, which is printed; `MITONGORY_SEED` sets another.
 mod archive;
 mod boundary;
 mod buffers;
 mod codec;
 mod files;
+mod marking;
 mod occurrences;
 mod packing;
 mod papers;
@@ -12,4 +13,5 @@ mod random;
 mod refusals;
 mod rules;
 mod searches;
+mod sets;
 mod values;

@@ -1,4 +1,5 @@
 //! The table of refusals: each row's example gives its number, and the values beside it are accepted.
+use mitongory::marking::mark_sitting;
 use mitongory::{ffi, positions, search, Mark, Method, Pattern, Refusal, Scratch, Stop, Text};
 
 /// A search from a mark with one budget step and no cell.
@@ -100,13 +101,40 @@ fn lists() {
 }
 
 #[test]
+fn sittings() {
+    let number =
+        |key: &[u32], sheets: &[&[u32]]| mark_sitting(key, sheets).map_err(Refusal::number).map(|s| s.marks.len());
+    let (last, large) = ((1 << 30) - 1, 1 << 30);
+    assert_eq!(number(&[0, 6, 12], &[&[][..]; 257]), Err(15));
+    assert_eq!(number(&[6, 6], &[&[5, 4][..]; 257]), Err(15));
+    assert_eq!(number(&[0, 6, 12], &[&[0, 6][..]; 256]), Ok(256));
+    for bad in [&[6, 6][..], &[5, 4], &[large], &[0, large], &[u32::MAX], &[u32::MAX, 0]] {
+        assert_eq!(number(bad, &[]), Err(8));
+        assert_eq!(number(bad, &[&[0, 6]]), Err(8));
+        assert_eq!(number(&[], &[bad]), Err(8));
+        assert_eq!(number(&[0, 6, 12], &[&[0, 6], &[], bad]), Err(8));
+        assert_eq!(number(&[0, 6, 12], &[bad, &[0, 6]]), Err(8));
+    }
+    assert_eq!(number(&[0, last], &[&[last], &[0, last]]), Ok(2));
+    assert_eq!(number(&[], &[&[12], &[6], &[6]]), Ok(3));
+    assert_eq!(number(&[], &[]), Ok(0));
+    // Counts and a report that do not fit the sheets need the raw call.
+    let raw = |key: &[u32], counts: &[u64], cells: usize| {
+        ffi::mark_sitting(key, &[0, 6, 12], counts, &mut vec![0; cells], &mut [0; 3])
+    };
+    assert_eq!((raw(&[], &[3], 3), raw(&[], &[3], 2), raw(&[], &[1, 2], 5), raw(&[6, 6], &[3], 2)), (0, 9, 9, 8));
+    assert_eq!((raw(&[], &[2], 3), raw(&[], &[4], 3), raw(&[], &[], 3), raw(&[], &[u64::MAX, 4], 6)), (16, 16, 16, 16));
+    assert_eq!((raw(&[6, 6], &[2], 0), raw(&[6, 6], &[1; 257], 0), raw(&[6, 6], &[3], 0)), (16, 15, 8));
+}
+
+#[test]
 fn numbers_and_messages() {
     for (i, refusal) in Refusal::ALL.iter().copied().enumerate() {
         assert_eq!(refusal.number(), i as u32 + 1);
         assert_eq!(Refusal::from_number(refusal.number()), Some(refusal));
         assert!(refusal.to_string().starts_with(&format!("refusal {}: ", i + 1)));
     }
-    for number in [0, 15, 100, 101, u32::MAX] {
+    for number in [0, 17, 100, 101, u32::MAX] {
         assert_eq!(Refusal::from_number(number), None);
     }
     let error: Box<dyn std::error::Error> = Refusal::FileEndsEarly.into();
