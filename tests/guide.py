@@ -84,6 +84,15 @@ class Library:
         said = self.calls.mitongory_list_read(*cells(ctypes.c_uint8, file), *target, *answer)
         return list(target[0])[: answer[0][0]] if said == 0 else said
 
+    def mark(self, key, positions, counts):
+        """A refusal's number, or right, missed and false of each sheet and then of all."""
+        report, answer = cells(ctypes.c_uint32, [7] * 3 * len(counts)), cells(ctypes.c_uint64, [0] * 3)
+        lists = cells(ctypes.c_uint32, key) + cells(ctypes.c_uint32, positions)
+        said = self.calls.mitongory_mark_sitting(*lists, *cells(ctypes.c_uint64, counts), *report, *answer)
+        if said != 0:
+            return said
+        return [tuple(report[0][3 * i : 3 * i + 3]) for i in range(len(counts))] + [tuple(answer[0])]
+
 
 def counted(count, word):
     return "%d %s%s" % (count, word, "" if count == 1 else "s")
@@ -169,6 +178,18 @@ def files(block, where):
         check("refused %d" % said if isinstance(said, int) else "list " + " ".join(map(str, said)), answer, where)
 
 
+def sittings(block, where):
+    """A key, sheets with what each comes to, perhaps other counts than theirs, and the totals; or the refusal alone."""
+    rows = [re.match(r"^(key|sheet|counts|totals) *([^-]*?) *(?:-> +(.*))?$", line).groups() for line in block]
+    numbers = lambda kind: [[int(p) for p in text.replace("(empty)", "").split()] for k, text, _ in rows if k == kind]
+    sheets = numbers("sheet")
+    counts = (numbers("counts") or [[len(sheet) for sheet in sheets]])[0]
+    said = library.mark(numbers("key")[0], sum(sheets, []), counts)
+    said = "refused %d" % said if isinstance(said, int) else ["right %d, missed %d, false %d" % marks for marks in said]
+    answers = [answer for _, _, answer in rows if answer]
+    check(said, answers if isinstance(said, list) else "".join(answers), where)
+
+
 def program(block, where, folder, printed):
     """A C program, and what it prints."""
     source, binary = os.path.join(folder, "guide.c"), os.path.join(folder, "guide")
@@ -239,13 +260,22 @@ def refusals():
         ("crates/search/specs/Verdict.antt", "numberOfRefusal"),
         ("crates/bits/specs/Eight.antt", "numberOf"),
         ("crates/positions/specs/Promise.antt", "(?:write|read)Refusal"),
+        ("crates/marking/specs/Promise.antt", "markRefusal"),
     ]:
         defined = named(page(path), r"^%s (\w+) = (\d+)$" % name)
         check(len(defined) > 1, True, "refusals of " + path)
         check(defined, {number: rules.get(number) for number in defined}, "refusals of %s against the guide" % path)
 
 
-SIMPLE = {"packed": packed, "calls": calls, "rows": rows, "hash": hash_values, "file": files, "console": console}
+SIMPLE = {
+    "packed": packed,
+    "calls": calls,
+    "rows": rows,
+    "hash": hash_values,
+    "file": files,
+    "sitting": sittings,
+    "console": console,
+}
 
 
 def run(path, folder):
