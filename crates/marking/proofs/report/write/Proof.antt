@@ -2,7 +2,7 @@
 -- reached on, gives the whole report, and the totals so far with theirs are the whole totals; the sheets that are left lie from the index
 -- reached on, and rise. The measure is how many are left.
 -- Assumes nothing.
-use Prim.Native.Nat.{_+_, _*_, _-_, _≤_}
+use Prim.Native.Nat.{_+_, _*_, _-_, _≤_, _<_}
 use mathlib.Core.Path.{_≡_, refl, sym, ap, _∙_}
 use mathlib.Core.Bool.{true}
 use mathlib.Core.List.{List}
@@ -50,7 +50,7 @@ add-end : tie.Need-add-end Inv-loop μ-loop
 add-end c =
     let a = c .before .before .before .before .before .before .before .args in
     let l = c .before .before .loop in
-    let inside = c .before .loop-test .taken in
+    let inside : l .i < length (a .counts .now) = omega arith in
     omega (arith, sum-here (a .counts .now) (l .i) inside)
 
 mul-sheet-marks : tie.Need-mul-sheet-marks Inv-loop μ-loop
@@ -66,14 +66,14 @@ part-sheet-marks-end : tie.Need-part-sheet-marks-end Inv-loop μ-loop
 part-sheet-marks-end c =
     let a = c .before .before .before .before .before .before .before .args in
     let l = c .before .before .loop in
-    let inside = c .before .loop-test .taken in
+    let inside : l .i < length (a .counts .now) = omega arith in
     omega (arith, sum-here (a .counts .now) (l .i) inside)
 
 sheet-marks-requires : tie.Need-sheet-marks-requires Inv-loop μ-loop
 sheet-marks-requires c κs =
     let a = c .before .before .before .before .before .before .before .before .args in
     let l = c .before .before .before .loop in
-    let inside = c .before .before .loop-test .taken in
+    let inside : l .i < length (a .counts .now) = omega arith in
     (c .before .before .before .before .before .before .before .before .pre .1 .1 .0, rise-taken (a .counts .now) (l .i) inside (a .sheets .now) (l .at) (l .inv .2) .0)
 
 mul-put : tie.Need-mul-put Inv-loop μ-loop
@@ -89,7 +89,7 @@ add-right : tie.Need-add-right Inv-loop μ-loop
 add-right c =
     let a = c .before .before .before .before .before .before .before .before .before .before .before .before .before .before .args in
     let l = c .before .before .before .before .before .before .before .before .before .loop in
-    let inside = c .before .before .before .before .before .before .before .before .loop-test .taken in
+    let inside : l .i < length (a .counts .now) = omega arith in
     let sheet = take (l .at + getD (a .counts .now) (l .i) 0 - l .at) (drop (l .at) (a .sheets .now)) in
     let few = small (a .key .now) sheet (c .before .before .before .before .before .before .before .before .before .before .before .before .before .before .pre .1 .1 .0) (rise-taken (a .counts .now) (l .i) inside (a .sheets .now) (l .at) (l .inv .2) .0) in
     omega (arith, c .before .before .before .before .before .sheet-marks .ensures .right-is)
@@ -101,7 +101,7 @@ add-missed : tie.Need-add-missed Inv-loop μ-loop
 add-missed c =
     let a = c .before .before .before .before .before .before .before .before .before .before .before .before .before .before .before .args in
     let l = c .before .before .before .before .before .before .before .before .before .before .loop in
-    let inside = c .before .before .before .before .before .before .before .before .before .loop-test .taken in
+    let inside : l .i < length (a .counts .now) = omega arith in
     let sheet = take (l .at + getD (a .counts .now) (l .i) 0 - l .at) (drop (l .at) (a .sheets .now)) in
     let few = small (a .key .now) sheet (c .before .before .before .before .before .before .before .before .before .before .before .before .before .before .before .pre .1 .1 .0) (rise-taken (a .counts .now) (l .i) inside (a .sheets .now) (l .at) (l .inv .2) .0) in
     omega (arith, c .before .before .before .before .before .before .sheet-marks .ensures .missed-is)
@@ -113,7 +113,7 @@ add-false-positives : tie.Need-add-false-positives Inv-loop μ-loop
 add-false-positives c =
     let a = c .before .before .before .before .before .before .before .before .before .before .before .before .before .before .before .before .args in
     let l = c .before .before .before .before .before .before .before .before .before .before .before .loop in
-    let inside = c .before .before .before .before .before .before .before .before .before .before .loop-test .taken in
+    let inside : l .i < length (a .counts .now) = omega arith in
     let sheet = take (l .at + getD (a .counts .now) (l .i) 0 - l .at) (drop (l .at) (a .sheets .now)) in
     let few = small (a .key .now) sheet (c .before .before .before .before .before .before .before .before .before .before .before .before .before .before .before .before .pre .1 .1 .0) (rise-taken (a .counts .now) (l .i) inside (a .sheets .now) (l .at) (l .inv .2) .0) in
     omega (arith, c .before .before .before .before .before .before .before .sheet-marks .ensures .false-is)
@@ -128,7 +128,7 @@ loop-again : tie.Need-loop-again Inv-loop μ-loop
 loop-again c =
     let a = c .before .before .before .before .before .before .before .before .before .before .before .before .before .before .before .before .args in
     let l = c .before .before .before .before .before .before .before .before .before .before .before .loop in
-    let inside = c .before .before .before .before .before .before .before .before .before .before .loop-test .taken in
+    let inside : l .i < length (a .counts .now) = omega arith in
     let sheet = take (l .at + getD (a .counts .now) (l .i) 0 - l .at) (drop (l .at) (a .sheets .now)) in
     let few = small (a .key .now) sheet (c .before .before .before .before .before .before .before .before .before .before .before .before .before .before .before .before .pre .1 .1 .0) (rise-taken (a .counts .now) (l .i) inside (a .sheets .now) (l .at) (l .inv .2) .0) in
     let m = c .before .before .before .before .before .before .before .sheet-marks in
@@ -160,7 +160,7 @@ unfolding reportOf
 returns c =
     let a = c .before .before .before .before .before .before .args in
     let l = c .before .loop in
-    let none = marks-end (a .counts .now) (l .i) (c .loop-test .left) (a .key .now) (drop (l .at) (a .sheets .now)) in
+    let none = marks-end (a .counts .now) (l .i) (omega arith) (a .key .now) (drop (l .at) (a .sheets .now)) in
     let total = no-totals in
     let right = ap (λ (ms : List Marks). totalsOf ms .right) none in
     let missed = ap (λ (ms : List Marks). totalsOf ms .missed) none in

@@ -39,7 +39,7 @@ returns-2 : tie.Need-returns-2 Inv-loop μ-loop
 returns-2 c =
     let list = c .before .before .before .before .before .before .args .list .now in
     let l = c .before .before .before .loop in
-    sym (falls-here list (l .i) (c .before .before .loop-test .taken) (l .last) (c .if2 .taken)) ∙ l .inv
+    sym (falls-here list (l .i) (c .before .before .loop-test .taken) (l .last) (omega arith)) ∙ l .inv
 
 add-i : tie.Need-add-i Inv-loop μ-loop
 add-i c = omega arith
@@ -51,7 +51,7 @@ loop-again : tie.Need-loop-again Inv-loop μ-loop
 loop-again c =
     let list = c .before .before .before .before .before .before .args .list .now in
     let l = c .before .before .before .loop in
-    sym (next-here list (l .i) (c .before .before .loop-test .taken) (l .last) (c .if2 .left)) ∙ l .inv
+    sym (next-here list (l .i) (c .before .before .loop-test .taken) (l .last) (omega arith)) ∙ l .inv
 
 returns-3 : tie.Need-returns-3 Inv-loop μ-loop
 returns-3 c =
