@@ -15,10 +15,32 @@ pub fn put32(s: &mut [u32], i: usize, v: u32) {
     }
 }
 
+pub fn get64(s: &[u64], i: usize) -> u64 {
+    if i < s.len() { s[i] } else { 0 }
+}
+
+pub fn put64(s: &mut [u64], i: usize, v: u64) {
+    if i < s.len() {
+        s[i] = v;
+    }
+}
+
 // The first k cells, or all.
 pub fn part32(s: &[u32], k: usize) -> &[u32] {
     let end = least_of(k, s.len());
     &s[0..end]
+}
+
+pub fn part64(s: &[u64], k: usize) -> &[u64] {
+    let end = least_of(k, s.len());
+    &s[0..end]
+}
+
+// So many cells from `from` on, or as many as there are.
+pub fn run32(s: &[u32], from: usize, count: usize) -> &[u32] {
+    let end = least_of(plus(from, count), s.len());
+    let start = least_of(from, end);
+    &s[start..end]
 }
 
 pub fn fill32(s: &mut [u32], x: usize) {
