@@ -151,7 +151,7 @@ const NOWHERE: usize = 5000;
 
 // Spoils a list of k positions now and then, so that it may not rise: a position is the one before it, or about the limit.
 // The other classes write nowhere.
-fn spoil(list: &mut [u32], k: usize, x: usize) {
+pub(crate) fn spoil(list: &mut [u32], k: usize, x: usize) {
     let i = draw(x, 1, k);
     let class = draw(x, 2, 40);
     let old = get32(list, minus(i, draw(x, 3, 2)));
