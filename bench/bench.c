@@ -4,6 +4,7 @@
 //   bench hard              searches on texts and patterns on which little is ruled out early
 //   bench short             calls with a budget of one step, nanoseconds for a call
 //   bench files             the position list file, nanoseconds for a position
+//   bench sitting           the marking of a sitting, nanoseconds for a position
 //   bench all               all of the timed parts
 #include "bench.h"
 #include <stdio.h>
@@ -32,6 +33,13 @@ int main(int count, char **args) {
         printf("\n## The position list file\n\nNanoseconds for each position.\n");
         known = 1, time_files();
     }
-    if (!known) fprintf(stderr, "bench check | texts | hard | short | files | all\n");
+    if (all || !strcmp(mode, "sitting")) {
+        printf("\n## A sitting\n\n"
+               "256 sheets against a key of 100,000 positions: nanoseconds for each position of the key, once for each\n"
+               "sheet, and of the sheets. The C code is timed with two merges, one that branches on the order of two\n"
+               "positions and one that does not, and the faster of the two is its time.\n");
+        known = 1, time_sitting();
+    }
+    if (!known) fprintf(stderr, "bench check | texts | hard | short | files | sitting | all\n");
     return known ? 0 : 2;
 }

@@ -1,11 +1,13 @@
-// The benchmark's parts: the check, the timed searches and the timed list files. Tables go to standard output as
-// Markdown, progress to standard error.
+// The benchmark's parts: the check, the timed searches, the timed list files and the timed sitting. Tables go to standard
+// output as Markdown, progress to standard error.
 #ifndef BENCH_H
 #define BENCH_H
 
 int check(long rounds);
+long check_sittings(long rounds);
 void time_texts(int log2);
 void time_hard(void);
 void time_short(void);
 void time_files(void);
+void time_sitting(void);
 #endif

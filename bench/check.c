@@ -1,14 +1,14 @@
 // Holds the searches of library and yardstick to the rules (the course's papers, the refusals, drawn inputs), and compares
-// what the two say of drawn list files, good and damaged.
+// what the two say of drawn list files, good and damaged. For sittings see check_sittings.c.
 #include "bench.h"
 #include "codec.h"
 #include "draw.h"
 #include "library.h"
+#include "room.h"
 #include "rules.h"
 #include <stdio.h>
 #include <stdlib.h>
 #include <string.h>
-#include <sys/mman.h>
 
 static void differ(const char *who, int method, size_t n, size_t m, size_t mark, size_t budget, size_t cells,
                    const struct answer *a, const struct answer *b) {
@@ -18,16 +18,6 @@ static void differ(const char *who, int method, size_t n, size_t m, size_t mark,
            b->hits, b->mark, b->stop);
     exit(1);
 }
-
-// Room between two pages that cannot be touched. A buffer of len bytes lies at its end or, for front, at its start, so
-// that a read or a write beside the buffer ends the program.
-enum { PAGE = 4096, ROOM = 64 * PAGE };
-static uint8_t *room(void) {
-    uint8_t *p = mmap(0, ROOM + 2 * PAGE, PROT_NONE, MAP_PRIVATE | MAP_ANONYMOUS, -1, 0);
-    if (p == MAP_FAILED || mprotect(p + PAGE, ROOM, PROT_READ | PROT_WRITE)) exit(2);
-    return p + PAGE;
-}
-static void *lent(uint8_t *at, size_t len, int front) { return front ? at : at + ROOM - len; }
 
 struct input {
     uint8_t *t, *w;
@@ -218,6 +208,7 @@ int check(long rounds) {
             }
         }
     }
-    printf("%ld searches as the rules say, %ld list file calls alike\n", calls, files);
+    long sittings = check_sittings(rounds * 1000);
+    printf("%ld searches as the rules say, %ld list file calls alike, %ld sittings as the rules say\n", calls, files, sittings);
     return 0;
 }

@@ -10,4 +10,8 @@ size_t naive_search(const uint8_t *text, size_t n, const uint8_t *pattern, size_
 // The file of a list, or the list of a file: the byte count or the list's count, or SIZE_MAX where there is none.
 size_t naive_write(const uint32_t *list, size_t count, uint8_t *target, size_t len);
 size_t naive_read(const uint8_t *file, size_t len, uint32_t *cells, size_t count);
+
+// The report of a sitting and its totals; returns whether it was marked.
+_Bool naive_mark(const uint32_t *key, size_t key_len, const uint32_t *sheets, size_t sheets_len, const uint64_t *counts,
+                 size_t counts_len, uint32_t *report, size_t report_len, uint64_t *totals);
 #endif

@@ -1,5 +1,5 @@
-// What a Rust programmer would write first, on packed bytes: plain loops over places and bits, and over the file's bytes.
-// The functions at the end give them C names.
+// What a Rust programmer would write first: plain loops over places and bits of packed bytes and over the file's bytes, and
+// a binary search for each position of a sheet. The functions at the end give them C names.
 use std::slice;
 
 fn bit(bytes: &[u8], p: usize) -> bool {
@@ -73,6 +73,32 @@ fn read(file: &[u8], cells: &mut [u32]) -> Option<usize> {
     (at == file.len()).then_some(count)
 }
 
+fn rises(list: &[u32]) -> bool {
+    list.windows(2).all(|pair| pair[0] < pair[1]) && list.last().is_none_or(|&p| p < LIMIT)
+}
+
+fn mark(key: &[u32], sheets: &[u32], counts: &[u64], report: &mut [u32]) -> Option<[u64; 3]> {
+    let mut totals = [0; 3];
+    let mut rest = sheets;
+    if counts.len() > 256 || !rises(key) {
+        return None;
+    }
+    for (i, &count) in counts.iter().enumerate() {
+        let (sheet, after) = rest.split_at_checked(usize::try_from(count).ok()?)?;
+        if !rises(sheet) {
+            return None;
+        }
+        let right = sheet.iter().filter(|p| key.binary_search(p).is_ok()).count();
+        let marks = [right, key.len() - right, sheet.len() - right];
+        for (k, cell) in report.get_mut(3 * i..3 * i + 3)?.iter_mut().enumerate() {
+            *cell = marks[k] as u32;
+            totals[k] += marks[k] as u64;
+        }
+        rest = after;
+    }
+    rest.is_empty().then_some(totals)
+}
+
 /// # Safety
 /// The pointers have the bytes of n and m bits, and cells for every hit.
 #[no_mangle]
@@ -100,4 +126,27 @@ pub unsafe extern "C" fn naive_write(list: *const u32, count: usize, target: *mu
 #[no_mangle]
 pub unsafe extern "C" fn naive_read(file: *const u8, len: usize, cells: *mut u32, count: usize) -> usize {
     read(slice::from_raw_parts(file, len), slice::from_raw_parts_mut(cells, count)).unwrap_or(usize::MAX)
+}
+
+/// # Safety
+/// Each pointer has as many elements as the number after it says, and the last has three.
+#[no_mangle]
+pub unsafe extern "C" fn naive_mark(
+    key: *const u32,
+    key_len: usize,
+    sheets: *const u32,
+    sheets_len: usize,
+    counts: *const u64,
+    counts_len: usize,
+    report: *mut u32,
+    report_len: usize,
+    totals: *mut u64,
+) -> bool {
+    let (key, sheets) = (slice::from_raw_parts(key, key_len), slice::from_raw_parts(sheets, sheets_len));
+    let (counts, report) = (slice::from_raw_parts(counts, counts_len), slice::from_raw_parts_mut(report, report_len));
+    let marked = mark(key, sheets, counts, report);
+    if let Some(sums) = marked {
+        slice::from_raw_parts_mut(totals, 3).copy_from_slice(&sums);
+    }
+    marked.is_some()
 }
