@@ -1,15 +1,14 @@
 -- Laws of the merge at an index of each list.
 use Prim.Native.Nat.{ℕ, _+_, _≤_, _<_}
 use mathlib.Core.Path.{_≡_, sym, ap, subst, _∙_}
-use mathlib.Core.Bool.{Bool, true, false}
+use mathlib.Core.Bool.{true}
 use mathlib.Core.List.{List, [], _∷_, _++_}
 use native.Mathlib.Omega.{arith}
-use native.Mathlib.Nat.{add-zero}
 use native.Mathlib.Numerals.{add-one}
 use native.Mathlib.Decide.{decLt}
-use borrow.Author.Tests.{eq-eqb, ne-eqb, le-leb, lt-leb}
+use borrow.Author.Tests.{lt-ltb, le-ltb}
 use mir.Val.{boolByte}
-use lib.Dec.{leb, eqb}
+use lib.Dec.{ltb}
 use lib.ListN.{length, getD, take, drop, length-append, length-drop, take-append-drop, drop-of-length-le}
 use lib.Seq.{length-take-le, take-suc, getD-drop, drop-drop}
 use Rattle.positions.specs.Encode.{risesFrom, rising}
@@ -22,32 +21,28 @@ rises-after : (l : List ℕ) (i : ℕ) → i < length l → rising l ≡ true �
 unfolding rising
 rises-after l i h e = taken-here l i h 0 (rises-rest 0 l i e) .2
 
--- ---- one step: how far it goes in each list, and what it counts, for the two positions
+-- ---- one step
 
-pub bit-most : (b : Bool) → boolByte b ≤ 1
-bit-most true = omega arith
-bit-most false = omega arith
-
-pub record Moves (x y z : ℕ) : Type 0 where
+-- by how much less than one position it goes on in each list, for the two positions
+pub record Stays (x y : ℕ) : Type 0 where
   pub x-most : x ≤ 1
   pub y-most : y ≤ 1
-  pub onward : 1 ≤ x + y
-  pub few : z ≤ x
+  pub onward : x + y ≤ 1
 
-pub step-moves : (a b : ℕ) → Moves (boolByte (leb a b)) (boolByte (leb b a)) (boolByte (eqb a b))
-step-moves a b =
+pub step-stays : (a b : ℕ) → Stays (boolByte (ltb b a)) (boolByte (ltb a b))
+step-stays a b =
     elim (decLt a b) [
       | yes h ↦
-          rw (le-leb a b (omega arith), lt-leb b a h, ne-eqb a b (λ s. omega arith))
-          (record { x-most = omega arith; y-most = omega arith; onward = omega arith; few = omega arith })
+          rw (lt-ltb a b h, le-ltb b a (omega arith))
+          (record { x-most = omega arith; y-most = omega arith; onward = omega arith })
       | no h ↦
           elim (decLt b a) [
             | yes k ↦
-                rw (lt-leb a b k, le-leb b a (omega arith), ne-eqb a b (λ s. omega arith))
-                (record { x-most = omega arith; y-most = omega arith; onward = omega arith; few = omega arith })
+                rw (lt-ltb b a k, le-ltb a b (omega arith))
+                (record { x-most = omega arith; y-most = omega arith; onward = omega arith })
             | no k ↦
-                rw (le-leb a b (omega arith), le-leb b a (omega arith), eq-eqb a b (omega arith))
-                (record { x-most = omega arith; y-most = omega arith; onward = omega arith; few = omega arith })
+                rw (le-ltb b a (omega arith), le-ltb a b (omega arith))
+                (record { x-most = omega arith; y-most = omega arith; onward = omega arith })
           ]
     ]
 
@@ -65,19 +60,35 @@ module _ (key sheet : List ℕ) (i j : ℕ) (k : i < length key) (s : j < length
       let on-sheet = here sheet j s ∙ ap (λ (p : ℕ). p ∷ drop (j + 1) sheet) (sym h) in
       sym ((λ z. both (here key i k z) (on-sheet z)) ∙ both-same (getD key i 0) (drop (i + 1) key) (drop (j + 1) sheet) (rises-after key i k e))
 
-  -- what a step counts, and what the lists share after it
-  pub step-counted : boolByte (eqb (getD key i 0) (getD sheet j 0))
-      + length (both (drop (i + boolByte (leb (getD key i 0) (getD sheet j 0))) key) (drop (j + boolByte (leb (getD sheet j 0) (getD key i 0))) sheet))
-      ≡ length (both (drop i key) (drop j sheet))
-  step-counted =
+  -- what the lists share before a step and after it, which goes to x and y: one position more where the step goes on in both
+  pub step-counted : (x y : ℕ)
+      → x + boolByte (ltb (getD sheet j 0) (getD key i 0)) ≡ i + 1
+      → y + boolByte (ltb (getD key i 0) (getD sheet j 0)) ≡ j + 1
+      → x + y + length (both (drop x key) (drop y sheet)) ≡ i + j + 1 + length (both (drop i key) (drop j sheet))
+  step-counted x y on-key on-sheet =
       let a = getD key i 0 in
       let b = getD sheet j 0 in
       elim (decLt a b) [
-        | yes h ↦ rw (le-leb a b (omega arith), lt-leb b a h, ne-eqb a b (λ z. omega arith), add-zero j) (omega (arith, ap length (less h)))
+        | yes h ↦
+            let stays : boolByte (ltb b a) ≡ 0 = ap boolByte (le-ltb b a (omega arith)) in
+            let goes : boolByte (ltb a b) ≡ 1 = ap boolByte (lt-ltb a b h) in
+            let ex : x ≡ i + 1 = omega arith in
+            let ey : y ≡ j = omega arith in
+            rw (ex, ey) (omega (arith, ap length (less h)))
         | no h ↦
             elim (decLt b a) [
-              | yes m ↦ rw (lt-leb a b m, le-leb b a (omega arith), ne-eqb a b (λ z. omega arith), add-zero i) (omega (arith, ap length (more m)))
-              | no m ↦ rw (le-leb a b (omega arith), le-leb b a (omega arith), eq-eqb a b (omega arith)) (omega (arith, ap length (same (omega arith))))
+              | yes m ↦
+                  let goes : boolByte (ltb b a) ≡ 1 = ap boolByte (lt-ltb b a m) in
+                  let stays : boolByte (ltb a b) ≡ 0 = ap boolByte (le-ltb a b (omega arith)) in
+                  let ex : x ≡ i = omega arith in
+                  let ey : y ≡ j + 1 = omega arith in
+                  rw (ex, ey) (omega (arith, ap length (more m)))
+              | no m ↦
+                  let goes : boolByte (ltb b a) ≡ 0 = ap boolByte (le-ltb b a (omega arith)) in
+                  let stays : boolByte (ltb a b) ≡ 0 = ap boolByte (le-ltb a b (omega arith)) in
+                  let ex : x ≡ i + 1 = omega arith in
+                  let ey : y ≡ j + 1 = omega arith in
+                  rw (ex, ey) (omega (arith, ap length (same (omega arith))))
             ]
       ]
 

@@ -42,7 +42,9 @@ fn eight_same(key: &[u32], i: usize, sheet: &[u32], j: usize) -> bool
     same
 }
 
-// So many steps of the merge.
+// So many steps of the merge. A step passes one position, or two where they are equal, so what was passed beyond one a step
+// is in both lists. An index goes on by 1 less a strict comparison, which compiles to a subtraction with borrow: the shortest
+// way from one pair of positions to the next.
 fn steps(key: &[u32], i: usize, sheet: &[u32], j: usize, most: usize) -> Met
     requires { ⌜ rising (now key) ≡ true ⌝ }
     requires { ⌜ rising (now sheet) ≡ true ⌝ }
@@ -53,20 +55,18 @@ fn steps(key: &[u32], i: usize, sheet: &[u32], j: usize, most: usize) -> Met
 {
     let mut x = i;
     let mut y = j;
-    let mut right: usize = 0;
     let mut step: usize = 0;
     while step < most {
         let a = key[x];
         let b = sheet[y];
-        x += (a <= b) as usize;
-        y += (b <= a) as usize;
-        right += (a == b) as usize;
+        x = x + 1 - (b < a) as usize;
+        y = y + 1 - (a < b) as usize;
         step += 1;
     }
     Met {
         key: x,
         sheet: y,
-        right: right,
+        right: x - i - (most - (y - j)),
     }
 }
 

@@ -1,33 +1,34 @@
 -- `marking::merge::steps` meets its contract. The loop's invariant: both indices have passed at most a position a step, together at
--- least one, and what is counted with what the lists share from the indices on is what they share from the first indices on. The
--- measure is what is left of the steps.
+-- least one, and what they have passed beyond that, with what the lists share from the indices on, is what they share from the first
+-- indices on. The measure is what is left of the steps.
 -- Assumes nothing.
 use Prim.Native.Nat.{_+_, _-_, _≤_}
 use mathlib.Core.Path.{_≡_}
 use native.Mathlib.Omega.{arith}
 use borrow.Author.Needs.{needs}
+use mir.Val.{boolByte}
+use lib.Dec.{ltb}
 use lib.ListN.{length, getD, drop}
 use Rattle.marking.specs.Marks.{both}
-use Rattle.marking.proofs.Merging.{step-moves, step-counted}
+use Rattle.marking.proofs.Merging.{step-stays, step-counted}
 use Rattle.marking.proofs.merge.steps.Statement.{statement}
 use Rattle.marking.proofs.merge.steps.Tie as tie
 
 abbrev Inv-loop : tie.InvT-loop
-Inv-loop key i sheet j most x₀ y₀ right₀ step₀ x y right step =
+Inv-loop key i sheet j most x₀ y₀ step₀ x y step =
     (i ≤ x)
     × (x ≤ i + step)
     × (j ≤ y)
     × (y ≤ j + step)
     × (i + j + step ≤ x + y)
-    × (right + i ≤ x)
     × (step ≤ most)
-    × (right + length (both (drop x key) (drop y sheet)) ≡ length (both (drop i key) (drop j sheet)))
+    × (x + y + length (both (drop x key) (drop y sheet)) ≡ i + j + step + length (both (drop i key) (drop j sheet)))
 
 abbrev μ-loop : tie.MeasureT-loop
-μ-loop key i sheet j most x₀ y₀ right₀ step₀ x y right step = most - step
+μ-loop key i sheet j most x₀ y₀ step₀ x y step = most - step
 
 loop-holds : tie.Need-loop-holds Inv-loop μ-loop
-loop-holds c = (omega arith, omega arith, omega arith, omega arith, omega arith, omega arith, omega arith, omega arith)
+loop-holds c = (omega arith, omega arith, omega arith, omega arith, omega arith, omega arith, omega arith)
 
 mul-a : tie.Need-mul-a Inv-loop μ-loop
 mul-a c = search needs
@@ -41,34 +42,30 @@ mul-b c = search needs
 shared-slice-read-b : tie.Need-shared-slice-read-b Inv-loop μ-loop
 shared-slice-read-b c = omega arith
 
+add-x : tie.Need-add-x Inv-loop μ-loop
+add-x c = omega arith
+
 cast-x : tie.Need-cast-x Inv-loop μ-loop
 cast-x c = search needs
 
-add-x : tie.Need-add-x Inv-loop μ-loop
-add-x c =
+sub-x : tie.Need-sub-x Inv-loop μ-loop
+sub-x c =
     let a = c .before .before .before .before .args in
     let l = c .before .before .before .loop in
-    let moves = step-moves (getD (a .key .now) (l .x) 0) (getD (a .sheet .now) (l .y) 0) in
+    let stays = step-stays (getD (a .key .now) (l .x) 0) (getD (a .sheet .now) (l .y) 0) in
     omega arith
+
+add-y : tie.Need-add-y Inv-loop μ-loop
+add-y c = omega arith
 
 cast-y : tie.Need-cast-y Inv-loop μ-loop
 cast-y c = search needs
 
-add-y : tie.Need-add-y Inv-loop μ-loop
-add-y c =
+sub-y : tie.Need-sub-y Inv-loop μ-loop
+sub-y c =
     let a = c .before .before .before .before .args in
     let l = c .before .before .before .loop in
-    let moves = step-moves (getD (a .key .now) (l .x) 0) (getD (a .sheet .now) (l .y) 0) in
-    omega arith
-
-cast-right : tie.Need-cast-right Inv-loop μ-loop
-cast-right c = search needs
-
-add-right : tie.Need-add-right Inv-loop μ-loop
-add-right c =
-    let a = c .before .before .before .before .args in
-    let l = c .before .before .before .loop in
-    let moves = step-moves (getD (a .key .now) (l .x) 0) (getD (a .sheet .now) (l .y) 0) in
+    let stays = step-stays (getD (a .key .now) (l .x) 0) (getD (a .sheet .now) (l .y) 0) in
     omega arith
 
 add-step : tie.Need-add-step Inv-loop μ-loop
@@ -81,20 +78,36 @@ loop-again : tie.Need-loop-again Inv-loop μ-loop
 loop-again c =
     let a = c .before .before .before .before .args in
     let l = c .before .before .before .loop in
-    let moves = step-moves (getD (a .key .now) (l .x) 0) (getD (a .sheet .now) (l .y) 0) in
-    let counted = step-counted (a .key .now) (a .sheet .now) (l .x) (l .y) (omega arith) (omega arith) (c .before .before .before .before .pre .0) (c .before .before .before .before .pre .1 .0) in
-    (omega arith, omega arith, omega arith, omega arith, omega arith, omega arith, omega arith, omega arith)
+    let p = getD (a .key .now) (l .x) 0 in
+    let q = getD (a .sheet .now) (l .y) 0 in
+    let stays = step-stays p q in
+    let x = l .x + 1 - boolByte (ltb q p) in
+    let y = l .y + 1 - boolByte (ltb p q) in
+    let pre = c .before .before .before .before .pre in
+    let counted = step-counted (a .key .now) (a .sheet .now) (l .x) (l .y) (omega arith) (omega arith) (pre .0) (pre .1 .0) x y (omega arith) (omega arith) in
+    (omega arith, omega arith, omega arith, omega arith, omega arith, omega arith, omega arith)
+
+sub-t17 : tie.Need-sub-t17 Inv-loop μ-loop
+sub-t17 c = omega arith
+
+sub-t18 : tie.Need-sub-t18 Inv-loop μ-loop
+sub-t18 c = omega arith
+
+sub-t19 : tie.Need-sub-t19 Inv-loop μ-loop
+sub-t19 c = omega arith
+
+sub-t20 : tie.Need-sub-t20 Inv-loop μ-loop
+sub-t20 c = omega arith
 
 returns : tie.Need-returns Inv-loop μ-loop
 returns c =
-    let l = c .before .loop in
     record {
       on-key = omega arith;
       in-key = omega arith;
       on-sheet = omega arith;
       in-sheet = omega arith;
       onward = omega arith;
-      counted = l .inv .7;
+      counted = omega arith;
       few = omega arith;
     }
 
@@ -109,13 +122,17 @@ steps-spec =
     shared-slice-read-a
     mul-b
     shared-slice-read-b
-    cast-x
     add-x
-    cast-y
+    cast-x
+    sub-x
     add-y
-    cast-right
-    add-right
+    cast-y
+    sub-y
     add-step
     loop-less
     loop-again
+    sub-t17
+    sub-t18
+    sub-t19
+    sub-t20
     returns)
