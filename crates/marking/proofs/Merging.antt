@@ -1,18 +1,18 @@
 -- Laws of the merge at an index of each list.
 use Prim.Native.Nat.{ℕ, _+_, _≤_, _<_}
 use mathlib.Core.Path.{_≡_, sym, ap, subst, _∙_}
-use mathlib.Core.Bool.{true}
+use mathlib.Core.Bool.{true, false, _&&_, false≢true}
 use mathlib.Core.List.{List, [], _∷_, _++_}
 use native.Mathlib.Omega.{arith}
 use native.Mathlib.Numerals.{add-one}
 use native.Mathlib.Decide.{decLt}
-use borrow.Author.Tests.{lt-ltb, le-ltb}
+use borrow.Author.Tests.{lt-ltb, le-ltb, ltb-true}
 use mir.Val.{boolByte}
 use lib.Dec.{ltb}
 use lib.ListN.{length, getD, take, drop, length-append, length-drop, take-append-drop, drop-of-length-le}
 use lib.Seq.{length-take-le, take-suc, getD-drop, drop-drop}
 use Rattle.positions.specs.Encode.{risesFrom, rising}
-use Rattle.positions.proofs.Rising.{here, taken-here, rises-rest}
+use Rattle.positions.proofs.Rising.{and-both, here, taken-here, rises-rest}
 use Rattle.marking.specs.Marks.{both}
 use Rattle.marking.proofs.Members.{both-same, both-less, both-more, both-common, both-none}
 
@@ -45,6 +45,24 @@ step-stays a b =
                 (record { x-most = omega arith; y-most = omega arith; onward = omega arith })
           ]
     ]
+
+-- the test of a step: there are steps left, and positions in both lists
+pub record Goes (s c x n y m : ℕ) : Type 0 where
+  pub some-steps : s < c
+  pub in-key : x < n
+  pub in-sheet : y < m
+
+pub goes : (s c x n y m : ℕ) → (ltb s c && ltb x n && ltb y m) ≡ true → Goes s c x n y m
+goes s c x n y m h =
+    let t = and-both (ltb s c && ltb x n) (ltb y m) h in
+    let u = and-both (ltb s c) (ltb x n) (t .0) in
+    record { some-steps = ltb-true s c (u .0); in-key = ltb-true x n (u .1); in-sheet = ltb-true y m (t .1) }
+
+-- so the first step is always made
+pub stopped : (s c x n y m : ℕ) → (ltb s c && ltb x n && ltb y m) ≡ false → Goes s c x n y m → ⊥
+stopped s c x n y m h g =
+    let t : (ltb s c && ltb x n && ltb y m) ≡ true = rw (lt-ltb s c (g .some-steps), lt-ltb x n (g .in-key), lt-ltb y m (g .in-sheet)) in
+    false≢true (sym h ∙ t)
 
 module _ (key sheet : List ℕ) (i j : ℕ) (k : i < length key) (s : j < length sheet) (e : rising key ≡ true) (f : rising sheet ≡ true) where
   less : getD key i 0 < getD sheet j 0 → both (drop (i + 1) key) (drop j sheet) ≡ both (drop i key) (drop j sheet)

@@ -6,9 +6,10 @@ use lib.ListN.{length, drop}
 use Rattle.marking.specs.Marks.{both, marks}
 use Rattle.marking.specs.declared.report.Marks.{Marks}
 
--- A part of the merge, from two indices on: it comes to two others, inside the lists and not both the same, and what it
--- counts is what the two lists share from the first indices on but not from the others on.
-pub record Passed (key sheet : List ℕ) (i j i′ j′ right : ℕ) : Type 0 where
+-- A part of the merge, from two indices on: it comes to two others, inside the lists and not both the same; what it counts, which is no
+-- more than it passes in the key, is what the two lists share from the first indices on but not from the others on; and a number of
+-- steps to make next.
+pub record Passed (key sheet : List ℕ) (i j i′ j′ right count : ℕ) : Type 0 where
   pub on-key : i ≤ i′
   pub in-key : i′ ≤ length key
   pub on-sheet : j ≤ j′
@@ -16,6 +17,7 @@ pub record Passed (key sheet : List ℕ) (i j i′ j′ right : ℕ) : Type 0 wh
   pub onward : i + j < i′ + j′
   pub counted : right + length (both (drop i′ key) (drop j′ sheet)) ≡ length (both (drop i key) (drop j sheet))
   pub few : right + i ≤ i′
+  pub some-steps : 0 < count
 
 -- what a sheet comes to, as numbers of 32 bits
 pub record Sheet (key sheet : List ℕ) (m : Marks) : Type 0 where
