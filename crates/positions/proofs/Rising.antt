@@ -1,7 +1,7 @@
 -- Laws of `risesFrom` and `encodeFrom` at an index of a list, and the byte count.
 use Prim.Native.Nat.{ℕ, zero, suc, _+_, _-_, _≤_, _<_}
 use mathlib.Core.Path.{_≡_, refl, sym, ap, _∙_}
-use mathlib.Core.Bool.{Bool, true, false, _&&_, and-false, false≢true}
+use mathlib.Core.Bool.{Bool, true, false, _&&_, and-true, and-false, false≢true}
 use mathlib.Core.List.{List, [], _∷_, _++_}
 use native.Mathlib.Omega.{arith}
 use native.Mathlib.Numerals.{add-one}
@@ -103,6 +103,16 @@ module _ (l : List ℕ) (i : ℕ) (inside : i < length l) where
         | yes k ↦ rw (lt-ltb last limit (omega arith), lt-ltb (getD l i 0) limit k) (on-here (last + 1) (omega arith) k)
         | no k ↦
             rw (large-here (last + 1) (omega arith), le-ltb (getD l i 0) limit (omega arith)) (and-false (ltb last limit))
+      ]
+
+  -- both in one: whether the next one is above it goes to what was found before
+  pub found-here : (good : Bool) (last : ℕ)
+      → ((good && ltb last (getD l i 0)) && (ltb (getD l i 0) limit && risesFrom (getD l i 0 + 1) (drop (i + 1) l)))
+      ≡ (good && (ltb last limit && risesFrom (last + 1) (drop i l)))
+  found-here good last =
+      elim (decLt last (getD l i 0)) [
+        | yes h ↦ rw (lt-ltb last (getD l i 0) h, and-true good) (ap (λ b. good && b) (sym (next-here last h)))
+        | no h ↦ rw (le-ltb last (getD l i 0) (omega arith), falls-here last (omega arith), and-false good)
       ]
 
 -- after the last position

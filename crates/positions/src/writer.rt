@@ -36,24 +36,20 @@ pub fn size(list: &[u32]) -> ByteCount
 }
 
 // Whether the positions rise strictly and are below 2^30. Where each is above the one before it, the last is the largest,
-// so only that one is held to the limit.
+// so only that one is held to the limit. The loop has no early way out, so that several positions are compared at a time.
 pub fn rises(list: &[u32]) -> bool
     ensures { λ r. ⌜ r ≡ rising (now (list .entry)) ⌝ }
 {
     if list.len() == 0 {
         return true;
     }
-    let mut last = list[0];
+    let mut good = true;
     let mut i: usize = 1;
     while i < list.len() {
-        let p = list[i];
-        if p <= last {
-            return false;
-        }
-        last = p;
+        good = good & (list[i - 1] < list[i]);
         i += 1;
     }
-    last < LIMIT
+    good & (list[list.len() - 1] < LIMIT)
 }
 
 // Stores the file of a list that the writer takes into a target that has room for it.
