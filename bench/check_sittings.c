@@ -7,7 +7,7 @@
 #include <stdio.h>
 #include <string.h>
 
-enum { SHEETS = 257, BASE = 64, CELLS = 40 * BASE, REPORT = 3 * SHEETS + 8, TOTALS = MITONGORY_MARK_CELLS, LIMIT = 1 << 30 };
+enum { SHEETS = 257, BASE = 64, CELLS = 40 * BASE, REPORT = 3 * SHEETS + 8, TOTALS = MITONGORY_SHEET_CELLS, LIMIT = 1 << 30 };
 
 struct sitting {
     uint32_t *key, *sheets;

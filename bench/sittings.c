@@ -20,7 +20,7 @@ struct job {
     uint64_t counts[SHEETS];
     size_t cells;
     uint32_t report[REPORT], first[REPORT];
-    uint64_t totals[CONTENDERS][MITONGORY_MARK_CELLS];
+    uint64_t totals[CONTENDERS][MITONGORY_SHEET_CELLS];
 };
 
 static void run(void *of, int contender) {
@@ -28,7 +28,7 @@ static void run(void *of, int contender) {
     uint64_t *totals = job->totals[contender];
     if (contender == BY_LIBRARY)
         mitongory_mark_sitting(job->key, KEY, job->sheets, job->cells, job->counts, SHEETS, job->report, REPORT, totals,
-                               MITONGORY_MARK_CELLS);
+                               MITONGORY_SHEET_CELLS);
     else if (contender == BY_NAIVE)
         naive_mark(job->key, KEY, job->sheets, job->cells, job->counts, SHEETS, job->report, REPORT, totals);
     else

@@ -29,8 +29,8 @@ static int refused(uint32_t refusal)
 int main(void)
 {
     static uint64_t scratch[MITONGORY_SCRATCH_CELLS];
-    uint32_t key[KEY_CELLS] = {0}, report[SHEETS * MITONGORY_MARK_CELLS] = {0}, result;
-    uint64_t found[MITONGORY_ANSWER_CELLS] = {0}, totals[MITONGORY_MARK_CELLS] = {0}, i;
+    uint32_t key[KEY_CELLS] = {0}, report[SHEETS * MITONGORY_SHEET_CELLS] = {0}, result;
+    uint64_t found[MITONGORY_ANSWER_CELLS] = {0}, totals[MITONGORY_SHEET_CELLS] = {0}, i;
 
     result = mitongory_search(text, sizeof text, 33, pattern, sizeof pattern, 21, MITONGORY_SKIP, 0, UINT32_MAX, key,
                               KEY_CELLS, scratch, MITONGORY_SCRATCH_CELLS, found, MITONGORY_ANSWER_CELLS);
@@ -42,11 +42,11 @@ int main(void)
     printf("\n");
 
     result = mitongory_mark_sitting(key, (size_t)found[MITONGORY_OCCURRENCES], sheets, POSITIONS, counts, SHEETS, report,
-                                    SHEETS * MITONGORY_MARK_CELLS, totals, MITONGORY_MARK_CELLS);
+                                    SHEETS * MITONGORY_SHEET_CELLS, totals, MITONGORY_SHEET_CELLS);
     if (result != MITONGORY_OK)
         return refused(result);
     for (i = 0; i < SHEETS; i++) {
-        const uint32_t *marks = report + i * MITONGORY_MARK_CELLS;
+        const uint32_t *marks = report + i * MITONGORY_SHEET_CELLS;
         printf("sheet %" PRIu64 ": %" PRIu32 " right, %" PRIu32 " missed, %" PRIu32 " false\n", i + 1,
                marks[MITONGORY_RIGHT], marks[MITONGORY_MISSED], marks[MITONGORY_FALSE_POSITIVES]);
     }

@@ -108,7 +108,7 @@ static uint32_t (*const mitongory_version_needed)(void) __attribute__((used)) = 
  * need one answer cell.
  */
 #define MITONGORY_SHEETS 256
-#define MITONGORY_MARK_CELLS 3
+#define MITONGORY_SHEET_CELLS 3
 
 /* What a call returns. 1 to 16 are the numbers of the requirements; 100 and 101 exist only in this interface. */
 enum mitongory_result {
@@ -128,7 +128,7 @@ enum mitongory_result {
     MITONGORY_BYTES_LEFT_OVER = 13,      /* bytes are left over after the list */
     MITONGORY_CELLS_MISSING = 14,        /* fewer cells than the file's count */
     MITONGORY_TOO_MANY_SHEETS = 15,      /* more than MITONGORY_SHEETS sheets */
-    MITONGORY_COUNTS_DIFFER = 16,        /* the counts of the sheets do not add up to their positions */
+    MITONGORY_COUNTS_DIFFER = 16,        /* the counts of the sheets do not add up to sheets_len */
     MITONGORY_UNKNOWN_METHOD = 100,      /* the method is none of enum mitongory_method */
     MITONGORY_ANSWER_CELLS_MISSING = 101 /* fewer answer cells than the call needs */
 };
@@ -268,11 +268,11 @@ uint32_t mitongory_list_read(const uint8_t *file, size_t file_len, uint32_t *cel
  *
  *   key      positions below 2^30 that rise strictly
  *   sheets   the positions of all sheets, one sheet after the other; each sheet rises by itself, as the key does
- *   counts   how many positions each sheet has, 0 or more; together they are sheets_len
- *   report   at least MITONGORY_MARK_CELLS cells for each sheet; the cells after those stay
- *   answer   at least MITONGORY_MARK_CELLS cells
+ *   counts   how many positions each sheet has, 0 or more; their sum is sheets_len
+ *   report   at least MITONGORY_SHEET_CELLS cells for each sheet; the cells after those stay
+ *   answer   at least MITONGORY_SHEET_CELLS cells
  *
- * Returns 0, or the first of 101, 15, 16, 8, 9 that applies. A sum of counts that does not fit 64 bits is 16 too.
+ * Returns 0, or the first of 101, 15, 16, 8, 9 that applies. A sum of counts that does not fit 64 bits gets 16 too.
  */
 uint32_t mitongory_mark_sitting(const uint32_t *key, size_t key_len,
                                 const uint32_t *sheets, size_t sheets_len,

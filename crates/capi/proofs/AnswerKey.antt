@@ -17,17 +17,21 @@ use Rattle.rules.specs.Machine.{Ending, done, Run}
 use Rattle.rules.proofs.Ranges.{same-test}
 use Rattle.rules.proofs.Occurrence.{occurs-iff, occurrences-rising, occurrences-exactly}
 use Rattle.search.specs.declared.Outcome.{Outcome}
-use Rattle.search.specs.declared.Outcome.the-variants.{Accepted, Refused}
+use Rattle.search.specs.declared.Outcome.the-variants as outcome
 use Rattle.search.specs.Verdict.{Request, accepted, rows, machine, verdict, Searched}
 use Rattle.search.specs.Calls as library
 use Rattle.search.proofs.Verdict.{accepted-fail}
 use Rattle.search.proofs.Calls.{complete}
 use Rattle.positions.specs.Basics.{limit}
-use Rattle.positions.specs.Encode.{rising}
+use Rattle.positions.specs.Rising.{rising}
 use Rattle.positions.proofs.StrictlyRising.{strict-is-rising}
-use Rattle.marking.specs.Marks.{on, both, marks}
+use Rattle.marking.specs.declared.Totals.{Totals}
+use Rattle.marking.specs.declared.Marked.the-variants.{Accepted}
+use Rattle.marking.specs.Marks.{on, keep, filter, both, marks}
+use Rattle.marking.specs.Promise.{MarksSitting}
 use Rattle.marking.specs.Holds.{sheetAt}
-use Rattle.marking.proofs.Members.{on-member, both-swap, both-member}
+use Rattle.marking.proofs.Members.{on-member, both-swap, filter-iff, filter-rises}
+use Rattle.marking.proofs.Holds.{accepted-holds}
 use Rattle.capi.specs.CallList.{Made, AllMade, joined, lastStop}
 use Rattle.capi.specs.Sitting.{SittingMarked}
 use Rattle.capi.specs.AnswerKey.{occurring, IsKey, RightOccur}
@@ -66,12 +70,12 @@ taken t w s [] e m h = let z : _≡_ {A = ℕ} 0 1 = cc in absurd (omega arith)
 taken t w s (c ∷ cs) e m h = go (c .outcome) refl (library.lastStop cs) refl (λ f k. taken t w (library.markOf s (c .outcome)) cs f (m .1) k)
   where
     of : (o : Outcome) → c .outcome ≡ o → (l : Option Ending) → library.later (library.stopOf o) l ≡ some e → l ≡ none → Taken t w
-    of (Accepted a) i l k n = taken-by (library.requestOf t w s (c .asked)) (machine (library.requestOf t w s (c .asked))) (accepted-verdict i (m .0))
+    of (outcome.Accepted a) i l k n = taken-by (library.requestOf t w s (c .asked)) (machine (library.requestOf t w s (c .asked))) (accepted-verdict i (m .0))
       where
-        accepted-verdict : c .outcome ≡ Accepted a → Searched (library.requestOf t w s (c .asked)) (c .outcome) (c .list-after) (c .scratch-after)
+        accepted-verdict : c .outcome ≡ outcome.Accepted a → Searched (library.requestOf t w s (c .asked)) (c .outcome) (c .list-after) (c .scratch-after)
             → verdict (library.requestOf t w s (c .asked)) ≡ accepted (machine (library.requestOf t w s (c .asked)))
         accepted-verdict j q = let r = rw j at q in r .verdict-is
-    of (Refused y) i l k n = let z : _≡_ {A = ℕ} 0 1 = cc in absurd (omega arith)
+    of (outcome.Refused y) i l k n = let z : _≡_ {A = ℕ} 0 1 = cc in absurd (omega arith)
 
     go : (o : Outcome) → c .outcome ≡ o → (l : Option Ending) → library.lastStop cs ≡ l → ((f : Ending) → library.lastStop cs ≡ some f → Taken t w) → Taken t w
     go o i none k below = of o i none (rw (i, k) at h) refl
@@ -105,12 +109,12 @@ module _ (t : Packed) (w : Pattern) (fits : Taken t w) (key : List ℕ) (are : k
       (λ h. on-member p key .1 (only-occurrences p .1 (occurs-iff t w p .0 h)))
 
   occurring-shared : (sheet : List ℕ) → both sheet key ≡ occurring t w sheet
-  unfolding both occurring
+  unfolding both occurring filter
   occurring-shared [] = refl
-  occurring-shared (p ∷ ps) = rw (on-key p, occurring-shared ps)
+  occurring-shared (p ∷ ps) = rw (on-key p) (ap (keep (occurs t w p) p) (occurring-shared ps))
 
   is-key : IsKey t w key
-  unfolding marks
+  unfolding marks occurring
   is-key =
       record {
         exactly = only-occurrences;
@@ -118,11 +122,10 @@ module _ (t : Packed) (w : Pattern) (fits : Taken t w) (key : List ℕ) (are : k
         right-is = λ sheet r. ap length (both-swap key sheet key-rises r ∙ occurring-shared sheet);
         occurring-are =
             λ sheet p.
-            let x = both-member p sheet key in
-            rw (← occurring-shared sheet) (
-              λ m. (x .0 m .0, only-occurrences p .0 (x .0 m .1)),
-              λ m. x .1 (m .0, only-occurrences p .1 (m .1)),
-            );
+            let x = filter-iff (occurs t w) p sheet in
+            let o = occurs-iff t w p in
+            (λ m. (x .0 m .0, o .0 (x .0 m .1)), λ m. x .1 (m .0, o .1 (m .1)));
+        occurring-rise = λ sheet r. filter-rises (occurs t w) sheet r;
       }
 
 -- ---- the theorems
@@ -133,17 +136,26 @@ pub searched-key : (t : Packed) (w : Pattern) (calls : List library.Call) → li
     → IsKey t w (library.joined calls)
 searched-key t w calls m h = is-key t w (taken t w 0 calls done m h) (library.joined calls) (complete t w calls m h)
 
+-- and a sitting marked against it by a call: the first cell of every sheet counts just the occurrences on the sheet
+pub right-searched : (t : Packed) (w : Pattern) (calls : List library.Call) (sheets counts before after : List ℕ) (u : Totals)
+    → library.Made t w 0 calls → library.lastStop calls ≡ some done → MarksSitting (library.joined calls) sheets counts before (Accepted u) after
+    → RightOccur t w sheets counts after
+unfolding marks
+right-searched t w calls sheets counts before after u m h s i k =
+    let a = accepted-holds (library.joined calls) sheets counts before after u s in
+    a .holds .right-are i k ∙ searched-key t w calls m h .right-is (sheetAt sheets counts i) (a .sheets-rise i k)
+
 -- the same for calls from C, of which the last accepted one stopped with 0
 pub found-key : (t : Packed) (w : Pattern) (calls : List Made) → AllMade t w 0 calls → lastStop calls ≡ some 0 → IsKey t w (joined calls)
 found-key t w calls m h =
     let f = finished t w calls m h in
     rw (f .places) (searched-key t w (f .calls) (f .made) (f .stop))
 
--- and a sitting marked against it, from C: the first cell of every sheet counts just the occurrences on the sheet
+-- and a sitting marked against it from C
 pub right-occur : (t : Packed) (w : Pattern) (calls : List Made) {sheets counts report answer report′ answer′ : List ℕ}
     → AllMade t w 0 calls → lastStop calls ≡ some 0 → SittingMarked (joined calls) sheets counts report answer 0 report′ answer′
     → RightOccur t w sheets counts report′
 unfolding marks
 right-occur t w calls {sheets} {counts} m h s i k =
     sat-holds s .right-are i k
-    ∙ found-key t w calls m h .right-is (sheetAt counts sheets i) (sat-rises s i k)
+    ∙ found-key t w calls m h .right-is (sheetAt sheets counts i) (sat-rises s i k)

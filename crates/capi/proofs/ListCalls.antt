@@ -10,7 +10,8 @@ use lib.Dec.{ltb}
 use lib.ListN.{length, take, drop}
 use lib.Pow.{areBytes}
 use Rattle.positions.specs.Basics.{Result, ok, fault}
-use Rattle.positions.specs.Encode.{encode, rising}
+use Rattle.positions.specs.Rising.{rising}
+use Rattle.positions.specs.Encode.{encode}
 use Rattle.positions.specs.Decode.{decode}
 use Rattle.positions.specs.Promise.{Answer, count, refused, writeAnswer, leaves, Writes, readAnswer, readCells, Reads}
 use Rattle.positions.specs.declared.Written.the-variants.{Bytes}

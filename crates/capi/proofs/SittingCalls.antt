@@ -7,7 +7,7 @@ use mathlib.Core.List.{List}
 use native.Mathlib.Omega.{arith}
 use lib.Dec.{ltb}
 use lib.ListN.{length}
-use Rattle.positions.specs.Encode.{rising}
+use Rattle.positions.specs.Rising.{rising}
 use Rattle.marking.specs.Marks.{Marks}
 use Rattle.marking.specs.Sitting.{Verdict, refused, marked, verdict, totalsOf}
 use Rattle.marking.specs.Promise.{reportAfter}
@@ -45,7 +45,7 @@ sat-holds {key} {sheets} {counts} {report} {answer} {report′} {answer′} s =
 
 -- and each sheet of it rises
 pub sat-rises : {key sheets counts report answer report′ answer′ : List ℕ} → SittingMarked key sheets counts report answer 0 report′ answer′
-    → (i : ℕ) → i < length counts → rising (sheetAt counts sheets i) ≡ true
+    → (i : ℕ) → i < length counts → rising (sheetAt sheets counts i) ≡ true
 sat-rises {key} {sheets} {counts} {report} s i h =
     let a = accepted s in
     sheet-rises counts sheets i h (judged key sheets counts (length report) (a .ms) (a .is) .sheets-rise)

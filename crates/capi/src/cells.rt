@@ -1,4 +1,4 @@
-// What an accepted call with one number or three to tell does: they go to the first answer cells, and 0 comes back.
+// An accepted call stores its one number, or its three, to the first answer cells, and returns 0.
 ghost use mathlib.Core.List.{[], _∷_};
 ghost use Prim.Native.Nat.{_≤_};
 ghost use lib.ListN.{length};

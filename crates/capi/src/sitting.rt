@@ -21,6 +21,6 @@ pub extern "C" fn mitongory_mark_sitting(
     let marked = marking::mark_sitting(key, sheets, counts, report);
     match marked {
         Marked::Refused(why) => why.number(),
-        Marked::All(t) => cells::three(answer, t.right, t.missed, t.false_positives),
+        Marked::Accepted(t) => cells::three(answer, t.right, t.missed, t.false_positives),
     }
 }

@@ -21,7 +21,7 @@ use marking::Marked;
 // The library's answer.
 fn answered(answer: Marked) -> Sitting {
     match answer {
-        Marked::All(t) => Sitting {
+        Marked::Accepted(t) => Sitting {
             good: true,
             refused: 0,
             right: t.right as usize,

@@ -8,7 +8,7 @@ use borrow.Author.Tests.{eq-eqb, ne-eqb, eqb-true, eqb-false}
 use lib.Dec.{eqb}
 use lib.ListN.{length, getD, take, drop, drop-of-length-le}
 use lib.Seq.{drop-drop}
-use Rattle.positions.specs.Encode.{rising}
+use Rattle.positions.specs.Rising.{rising}
 use Rattle.positions.proofs.Rising.{and-both, here}
 use Rattle.marking.specs.Sitting.{sum, sheetsOf, allRise}
 
@@ -25,27 +25,27 @@ module _ (counts : List ℕ) (i : ℕ) (h : i < length counts) where
 
   -- the sheet at an index of the counts lies from `at` on, and the sheets after it from its end on
   pub sheets-here : (cells : List ℕ) (at : ℕ)
-      → sheetsOf (drop i counts) (drop at cells) ≡ take (getD counts i 0) (drop at cells) ∷ sheetsOf (drop (i + 1) counts) (drop (at + getD counts i 0) cells)
+      → sheetsOf (drop at cells) (drop i counts) ≡ take (getD counts i 0) (drop at cells) ∷ sheetsOf (drop (at + getD counts i 0) cells) (drop (i + 1) counts)
   unfolding sheetsOf
   sheets-here cells at = rw (here counts i h, drop-drop (getD counts i 0) at cells)
 
   -- whether it rises is decided first
   pub rise-here : (cells : List ℕ) (at : ℕ)
-      → allRise (sheetsOf (drop i counts) (drop at cells))
-      ≡ (rising (take (at + getD counts i 0 - at) (drop at cells)) && allRise (sheetsOf (drop (i + 1) counts) (drop (at + getD counts i 0) cells)))
+      → allRise (sheetsOf (drop at cells) (drop i counts))
+      ≡ (rising (take (at + getD counts i 0 - at) (drop at cells)) && allRise (sheetsOf (drop (at + getD counts i 0) cells) (drop (i + 1) counts)))
   unfolding allRise
   rise-here cells at = rw (sheets-here cells at, part-is cells at (getD counts i 0))
 
-  pub rise-taken : (cells : List ℕ) (at : ℕ) → allRise (sheetsOf (drop i counts) (drop at cells)) ≡ true
-      → (rising (take (at + getD counts i 0 - at) (drop at cells)) ≡ true) × (allRise (sheetsOf (drop (i + 1) counts) (drop (at + getD counts i 0) cells)) ≡ true)
-  rise-taken cells at e = and-both (rising (take (at + getD counts i 0 - at) (drop at cells))) (allRise (sheetsOf (drop (i + 1) counts) (drop (at + getD counts i 0) cells))) (sym (rise-here cells at) ∙ e)
+  pub rise-taken : (cells : List ℕ) (at : ℕ) → allRise (sheetsOf (drop at cells) (drop i counts)) ≡ true
+      → (rising (take (at + getD counts i 0 - at) (drop at cells)) ≡ true) × (allRise (sheetsOf (drop (at + getD counts i 0) cells) (drop (i + 1) counts)) ≡ true)
+  rise-taken cells at e = and-both (rising (take (at + getD counts i 0 - at) (drop at cells))) (allRise (sheetsOf (drop (at + getD counts i 0) cells) (drop (i + 1) counts))) (sym (rise-here cells at) ∙ e)
 
 module _ (counts : List ℕ) (i : ℕ) (h : length counts ≤ i) where
   pub sum-end : sum (drop i counts) ≡ 0
   unfolding sum
   sum-end = rw (drop-of-length-le counts h)
 
-  pub sheets-end : (cells : List ℕ) → sheetsOf (drop i counts) cells ≡ []
+  pub sheets-end : (cells : List ℕ) → sheetsOf cells (drop i counts) ≡ []
   unfolding sheetsOf
   sheets-end cells = rw (drop-of-length-le counts h)
 

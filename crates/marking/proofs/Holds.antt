@@ -7,32 +7,31 @@ use native.Mathlib.Omega.{arith}
 use native.Mathlib.Decide.{decLe}
 use borrow.Author.Tests.{eqb-true}
 use lib.Dec.{eqb}
-use lib.ListN.{length, getD, take, drop, length-drop, List·getD-append, List·getD-map}
+use lib.ListN.{length, getD, take, drop, length-drop, take-append-drop, List·getD-append, List·getD-map}
 use lib.Seq.{getD-append-add, getD-drop, length-take-le}
-use Rattle.positions.specs.Encode.{rising}
+use Rattle.positions.specs.Rising.{rising}
 use Rattle.positions.proofs.Rising.{and-both}
 use Rattle.marking.specs.declared.Totals.{Totals}
-use Rattle.marking.specs.declared.Marked.the-variants.{All}
-use Rattle.marking.specs.Marks as sheet
-use Rattle.marking.specs.Marks.{marks}
+use Rattle.marking.specs.declared.Marked.the-variants.{Accepted}
+use Rattle.marking.specs.Marks.{Marks, marks}
 use Rattle.marking.specs.Sitting.{sum, sheetsOf, allRise, allMarks, reportOf, totalsOf, Verdict, refused, marked, verdict}
-use Rattle.marking.specs.Promise.{totalled, answerOf, reportAfter, Marks}
-use Rattle.marking.specs.Holds.{sheetAt, cell, column, Holds}
+use Rattle.marking.specs.Promise.{totalled, answerOf, reportAfter, MarksSitting}
+use Rattle.marking.specs.Holds.{sheetAt, together, cell, column, Holds}
 use Rattle.marking.proofs.Members.{only-itself}
 use Rattle.marking.proofs.Reporting.{right-missed, right-false}
 use Rattle.marking.proofs.Verdicts.{many-sheets, counts-differ, not-rising, report-short, all-marked, length-marks, length-report}
 
 -- ---- an accepted call's input
 
-pub record Judged (key cells counts : List ℕ) (room : ℕ) (ms : List sheet.Marks) : Type 0 where
+pub record Judged (key cells counts : List ℕ) (room : ℕ) (ms : List Marks) : Type 0 where
   pub few : length counts ≤ 256
   pub same : sum counts ≡ length cells
   pub key-rises : rising key ≡ true
-  pub sheets-rise : allRise (sheetsOf counts cells) ≡ true
+  pub sheets-rise : allRise (sheetsOf cells counts) ≡ true
   pub fits : 3 * length counts ≤ room
-  pub are : ms ≡ allMarks key counts cells
+  pub are : ms ≡ allMarks key cells counts
 
-pub judged : (key cells counts : List ℕ) (room : ℕ) (ms : List sheet.Marks) → verdict key cells counts room ≡ marked ms → Judged key cells counts room ms
+pub judged : (key cells counts : List ℕ) (room : ℕ) (ms : List Marks) → verdict key cells counts room ≡ marked ms → Judged key cells counts room ms
 judged key cells counts room ms e =
     elim (decLe (length counts) 256) [
       | yes few ↦ counted few (eqb (sum counts) (length cells)) refl
@@ -42,10 +41,10 @@ judged key cells counts room ms e =
     never : (k : ℕ) → verdict key cells counts room ≡ refused k → ⊥
     never k h = let z : _≡_ {A = ℕ} 0 1 = cc in omega arith
 
-    risen : (few : length counts ≤ 256) (same : eqb (sum counts) (length cells) ≡ true) (b : Bool) → (rising key && allRise (sheetsOf counts cells)) ≡ b → Judged key cells counts room ms
+    risen : (few : length counts ≤ 256) (same : eqb (sum counts) (length cells) ≡ true) (b : Bool) → (rising key && allRise (sheetsOf cells counts)) ≡ b → Judged key cells counts room ms
     risen few same false h = absurd (never 8 (not-rising key cells counts room few same h))
     risen few same true h =
-        let r = and-both (rising key) (allRise (sheetsOf counts cells)) h in
+        let r = and-both (rising key) (allRise (sheetsOf cells counts)) h in
         elim (decLe (3 * length counts) room) [
           | yes fits ↦
               let m = all-marked key cells counts room few same h fits in
@@ -55,7 +54,7 @@ judged key cells counts room ms e =
 
     counted : length counts ≤ 256 → (b : Bool) → eqb (sum counts) (length cells) ≡ b → Judged key cells counts room ms
     counted few false h = absurd (never 16 (counts-differ key cells counts room few h))
-    counted few true h = risen few h (rising key && allRise (sheetsOf counts cells)) refl
+    counted few true h = risen few h (rising key && allRise (sheetsOf cells counts)) refl
 
 -- every refusal is one of 8, 9, 15, 16
 pub refused-least : (key cells counts : List ℕ) (room k : ℕ) → verdict key cells counts room ≡ refused k → 8 ≤ k
@@ -68,7 +67,7 @@ refused-least key cells counts room k e =
     least : (n : ℕ) → verdict key cells counts room ≡ refused n → 8 ≤ n → 8 ≤ k
     least n h l = let s : n ≡ k = cc in omega arith
 
-    risen : (few : length counts ≤ 256) (same : eqb (sum counts) (length cells) ≡ true) (b : Bool) → (rising key && allRise (sheetsOf counts cells)) ≡ b → 8 ≤ k
+    risen : (few : length counts ≤ 256) (same : eqb (sum counts) (length cells) ≡ true) (b : Bool) → (rising key && allRise (sheetsOf cells counts)) ≡ b → 8 ≤ k
     risen few same false h = least 8 (not-rising key cells counts room few same h) (omega arith)
     risen few same true h =
         elim (decLe (3 * length counts) room) [
@@ -78,29 +77,36 @@ refused-least key cells counts room k e =
 
     counted : length counts ≤ 256 → (b : Bool) → eqb (sum counts) (length cells) ≡ b → 8 ≤ k
     counted few false h = least 16 (counts-differ key cells counts room few h) (omega arith)
-    counted few true h = risen few h (rising key && allRise (sheetsOf counts cells)) refl
+    counted few true h = risen few h (rising key && allRise (sheetsOf cells counts)) refl
 
 -- ---- a sheet by its number
 
-sheet-length : (counts cells : List ℕ) (i : ℕ) → i < length counts → sum counts ≤ length cells → length (sheetAt counts cells i) ≡ getD counts i 0
+sheet-length : (counts cells : List ℕ) (i : ℕ) → i < length counts → sum counts ≤ length cells → length (sheetAt cells counts i) ≡ getD counts i 0
 unfolding sheetsOf sum
 sheet-length [] cells i h k = absurd (omega arith)
 sheet-length (c ∷ cs) cells zero h k = length-take-le c cells (omega arith)
 sheet-length (c ∷ cs) cells (suc i) h k = sheet-length cs (drop c cells) i (omega arith) (simp length-drop (omega arith))
 
-pub sheet-rises : (counts cells : List ℕ) (i : ℕ) → i < length counts → allRise (sheetsOf counts cells) ≡ true → rising (sheetAt counts cells i) ≡ true
+pub sheet-rises : (counts cells : List ℕ) (i : ℕ) → i < length counts → allRise (sheetsOf cells counts) ≡ true → rising (sheetAt cells counts i) ≡ true
 unfolding sheetsOf allRise
 sheet-rises [] cells i h e = absurd (omega arith)
-sheet-rises (c ∷ cs) cells zero h e = and-both (rising (take c cells)) (allRise (sheetsOf cs (drop c cells))) e .0
-sheet-rises (c ∷ cs) cells (suc i) h e = sheet-rises cs (drop c cells) i (omega arith) (and-both (rising (take c cells)) (allRise (sheetsOf cs (drop c cells))) e .1)
+sheet-rises (c ∷ cs) cells zero h e = and-both (rising (take c cells)) (allRise (sheetsOf (drop c cells) cs)) e .0
+sheet-rises (c ∷ cs) cells (suc i) h e = sheet-rises cs (drop c cells) i (omega arith) (and-both (rising (take c cells)) (allRise (sheetsOf (drop c cells) cs)) e .1)
+
+sheets-together : (counts cells : List ℕ) → sum counts ≡ length cells → together (sheetsOf cells counts) ≡ cells
+unfolding sheetsOf sum together
+sheets-together [] [] k = refl
+sheets-together [] (p ∷ ps) k = absurd (omega arith)
+sheets-together (c ∷ cs) cells k =
+    ap (λ (l : List ℕ). take c cells ++ l) (sheets-together cs (drop c cells) (simp length-drop (omega arith))) ∙ take-append-drop c cells
 
 -- ---- a cell of the report, and a column
 
-cells-of : sheet.Marks → List ℕ
+cells-of : Marks → List ℕ
 cells-of m = m .right ∷ m .missed ∷ m .false-positives ∷ []
 
 module _ (k : ℕ) (small : k < 3) where
-  cell-at : (ms : List sheet.Marks) (rest : List ℕ) (i : ℕ) (d : sheet.Marks) → i < length ms
+  cell-at : (ms : List Marks) (rest : List ℕ) (i : ℕ) (d : Marks) → i < length ms
       → cell k (reportOf ms ++ rest) i ≡ getD (cells-of (getD ms i d)) k 0
   unfolding reportOf cells-of
   cell-at [] rest i d h = absurd (omega arith)
@@ -118,7 +124,7 @@ module _ (k : ℕ) (small : k < 3) where
       let next : 3 * suc i + k ≡ suc (suc (suc (3 * i + k))) = omega arith in
       rw (next, column-on a b c r (suc i) n)
 
-  column-sum : (ms : List sheet.Marks) (rest : List ℕ) → column k (reportOf ms ++ rest) 0 (length ms) ≡ sum (map (λ (m : sheet.Marks). getD (cells-of m) k 0) ms)
+  column-sum : (ms : List Marks) (rest : List ℕ) → column k (reportOf ms ++ rest) 0 (length ms) ≡ sum (map (λ (m : Marks). getD (cells-of m) k 0) ms)
   unfolding column sum reportOf
   column-sum [] rest = refl
   column-sum (m ∷ ms) rest =
@@ -126,19 +132,19 @@ module _ (k : ℕ) (small : k < 3) where
 
 -- ---- the theorem
 
-module _ (key cells counts before after : List ℕ) (ms : List sheet.Marks) (j : Judged key cells counts (length before) ms) (e : after ≡ reportOf ms ++ drop (length (reportOf ms)) before) where
+module _ (key cells counts before after : List ℕ) (ms : List Marks) (j : Judged key cells counts (length before) ms) (e : after ≡ reportOf ms ++ drop (length (reportOf ms)) before) where
   n-marks : length ms ≡ length counts
   n-marks = ap length (j .are) ∙ length-marks key counts cells
 
-  at : (k i : ℕ) → k < 3 → i < length counts → cell k after i ≡ getD (cells-of (marks key (sheetAt counts cells i))) k 0
+  at : (k i : ℕ) → k < 3 → i < length counts → cell k after i ≡ getD (cells-of (marks key (sheetAt cells counts i))) k 0
   unfolding allMarks
   at k i small h =
       ap (λ (l : List ℕ). cell k l i) e
       ∙ cell-at k small ms (drop (length (reportOf ms)) before) i (marks key []) (omega (arith, n-marks))
-      ∙ ap (λ (l : List sheet.Marks). getD (cells-of (getD l i (marks key []))) k 0) (j .are)
-      ∙ ap (λ (m : sheet.Marks). getD (cells-of m) k 0) (List·getD-map (marks key) (sheetsOf counts cells) i [])
+      ∙ ap (λ (l : List Marks). getD (cells-of (getD l i (marks key []))) k 0) (j .are)
+      ∙ ap (λ (m : Marks). getD (cells-of m) k 0) (List·getD-map (marks key) (sheetsOf cells counts) i [])
 
-  total : (k : ℕ) → k < 3 → sum (map (λ (m : sheet.Marks). getD (cells-of m) k 0) ms) ≡ column k after 0 (length counts)
+  total : (k : ℕ) → k < 3 → sum (map (λ (m : Marks). getD (cells-of m) k 0) ms) ≡ column k after 0 (length counts)
   total k small =
       sym (column-sum k small ms (drop (length (reportOf ms)) before))
       ∙ (λ z. column k (sym e z) 0 (n-marks z))
@@ -149,38 +155,53 @@ module _ (key cells counts before after : List ℕ) (ms : List sheet.Marks) (j :
       let split : i ≡ length (reportOf ms) + (i - length (reportOf ms)) = omega arith in
       rw (e, split) (getD-append-add (reportOf ms) (drop (length (reportOf ms)) before) (i - length (reportOf ms)) 0 ∙ getD-drop (length (reportOf ms)) before (i - length (reportOf ms)) 0)
 
-  pub holds-of : (t : sheet.Marks) → t ≡ totalsOf ms → Holds key cells counts before after t
+  pub holds-of : (t : Marks) → t ≡ totalsOf ms → Holds key cells counts before after t
   unfolding marks totalsOf cells-of
   holds-of t s =
       record {
+        sheet-length = λ i h. sheet-length counts cells i h (omega (arith, j .same));
+        sheets-are = sheets-together counts cells (j .same);
         right-are = λ i h. at 0 i (omega arith) h;
         missed-are = λ i h. at 1 i (omega arith) h;
         false-are = λ i h. at 2 i (omega arith) h;
-        right-missed = λ i h. omega (arith, at 0 i (omega arith) h, at 1 i (omega arith) h, right-missed key (sheetAt counts cells i));
+        later-stay = later;
+        total-right = ap (λ (m : Marks). m .right) s ∙ total 0 (omega arith);
+        total-missed = ap (λ (m : Marks). m .missed) s ∙ total 1 (omega arith);
+        total-false = ap (λ (m : Marks). m .false-positives) s ∙ total 2 (omega arith);
+        right-missed = λ i h. omega (arith, at 0 i (omega arith) h, at 1 i (omega arith) h, right-missed key (sheetAt cells counts i));
         right-false =
             λ i h.
             omega (
               arith,
               at 0 i (omega arith) h,
               at 2 i (omega arith) h,
-              right-false key (sheetAt counts cells i) (j .key-rises) (sheet-rises counts cells i h (j .sheets-rise)),
-              sheet-length counts cells i h (omega (arith, j .same)),
+              right-false key (sheetAt cells counts i) (j .key-rises) (sheet-rises counts cells i h (j .sheets-rise)),
             );
-        total-right = ap (λ (m : sheet.Marks). m .right) s ∙ total 0 (omega arith);
-        total-missed = ap (λ (m : sheet.Marks). m .missed) s ∙ total 1 (omega arith);
-        total-false = ap (λ (m : sheet.Marks). m .false-positives) s ∙ total 2 (omega arith);
         perfect =
             λ i h same.
             let none = only-itself key in
             (at 1 i (omega arith) h ∙ rw (same, none), at 2 i (omega arith) h ∙ rw (same, none));
-        later-stay = later;
       }
 
-pub holds : (key cells counts before after : List ℕ) (t : Totals) → Marks key cells counts before (All t) after → Holds key cells counts before after (totalled t)
-holds key cells counts before after t m = go (verdict key cells counts (length before)) refl
+-- an accepted call's sheets rise, as does its key
+pub record Accepts (key cells counts before after : List ℕ) (t : Totals) : Type 0 where
+  pub holds : Holds key cells counts before after (totalled t)
+  pub sheets-rise : (i : ℕ) → i < length counts → rising (sheetAt cells counts i) ≡ true
+
+pub accepted-holds : (key cells counts before after : List ℕ) (t : Totals) → MarksSitting key cells counts before (Accepted t) after
+    → Accepts key cells counts before after t
+accepted-holds key cells counts before after t m = go (verdict key cells counts (length before)) refl
   where
-    go : (v : Verdict) → verdict key cells counts (length before) ≡ v → Holds key cells counts before after (totalled t)
+    go : (v : Verdict) → verdict key cells counts (length before) ≡ v → Accepts key cells counts before after t
     go (refused k) e = absurd (let q = m .answer ∙ ap answerOf e in let z : _≡_ {A = ℕ} 0 1 = cc in omega arith)
     go (marked ms) e =
         let q = m .answer ∙ ap answerOf e in
-        holds-of key cells counts before after ms (judged key cells counts (length before) ms e) (m .report ∙ ap (λ (v : Verdict). reportAfter v before) e) (totalled t) cc
+        let j = judged key cells counts (length before) ms e in
+        record {
+          holds = holds-of key cells counts before after ms j (m .report ∙ ap (λ (v : Verdict). reportAfter v before) e) (totalled t) cc;
+          sheets-rise = λ i h. sheet-rises counts cells i h (j .sheets-rise);
+        }
+
+pub holds : (key cells counts before after : List ℕ) (t : Totals) → MarksSitting key cells counts before (Accepted t) after
+    → Holds key cells counts before after (totalled t)
+holds key cells counts before after t m = accepted-holds key cells counts before after t m .holds

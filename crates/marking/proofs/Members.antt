@@ -10,9 +10,9 @@ use borrow.Author.Tests.{eq-eqb, ne-eqb, eqb-true, not-true}
 use lib.Dec.{eqb}
 use lib.ListN.{length}
 use Rattle.positions.specs.Basics.{limit}
-use Rattle.positions.specs.Encode.{risesFrom, rising}
+use Rattle.positions.specs.Rising.{risesFrom, rising}
 use Rattle.positions.proofs.Rising.{rises-on, rises-taken, rises-lower}
-use Rattle.marking.specs.Marks.{on, keep, both, only}
+use Rattle.marking.specs.Marks.{on, keep, filter, both, only}
 
 -- ---- one position
 
@@ -35,23 +35,23 @@ off-low p next (q ∷ qs) e h =
 -- ---- what two lists share
 
 both-here : (p : ℕ) (ps l : List ℕ) → on p l ≡ true → both (p ∷ ps) l ≡ p ∷ both ps l
-unfolding both
+unfolding both filter
 both-here p ps l h = rw h
 
 both-past : (p : ℕ) (ps l : List ℕ) → on p l ≡ false → both (p ∷ ps) l ≡ both ps l
-unfolding both
+unfolding both filter
 both-past p ps l h = rw h
 
 -- a position that is below a rising list is not shared with it
 both-low : (b next : ℕ) (ps l : List ℕ) → risesFrom next ps ≡ true → b < next → both ps (b ∷ l) ≡ both ps l
-unfolding both
+unfolding both filter
 both-low b next [] l e h = refl
 both-low b next (p ∷ ps) l e h =
     let t = rises-taken next p ps e in
     rw (on-other p b l (λ s. omega (arith, t .0)), both-low b (p + 1) ps l (t .2) (omega (arith, t .0)))
 
 pub both-none : (ps : List ℕ) → both ps [] ≡ []
-unfolding both on
+unfolding both filter on
 both-none [] = refl
 both-none (p ∷ ps) = both-none ps
 
@@ -64,7 +64,7 @@ both-less a b ps qs e h =
     both-past a ps (b ∷ qs) (on-other a b qs (λ s. omega arith) ∙ off-low a (b + 1) qs e (omega arith))
 
 pub both-more : (a b : ℕ) (ps qs : List ℕ) → risesFrom (a + 1) ps ≡ true → b < a → both (a ∷ ps) (b ∷ qs) ≡ both (a ∷ ps) qs
-unfolding both
+unfolding both filter
 both-more a b ps qs e h = rw (on-other a b qs (λ s. omega arith), both-low b (a + 1) ps qs e (omega arith))
 
 -- positions that both lists begin with are shared
@@ -76,18 +76,18 @@ both-common next (a ∷ front) ps qs e =
 
 -- ---- a list is what it shares with another and the others
 
-length-keep : (b : Bool) (p m n : ℕ) (xs ys : List ℕ) → length xs + length ys ≡ n → length (keep b p xs) + length (keep (not b) p ys) ≡ suc n
-length-keep true p m n xs ys h = omega arith
-length-keep false p m n xs ys h = omega arith
+length-keep : (b : Bool) (p n : ℕ) (xs ys : List ℕ) → length xs + length ys ≡ n → length (keep b p xs) + length (keep (not b) p ys) ≡ suc n
+length-keep true p n xs ys h = omega arith
+length-keep false p n xs ys h = omega arith
 
 pub both-only : (ps l : List ℕ) → length (both ps l) + length (only ps l) ≡ length ps
-unfolding both only
+unfolding both only filter
 both-only [] l = refl
-both-only (p ∷ ps) l = length-keep (on p l) p 0 (length ps) (both ps l) (only ps l) (both-only ps l)
+both-only (p ∷ ps) l = length-keep (on p l) p (length ps) (both ps l) (only ps l) (both-only ps l)
 
 -- what two rising lists share does not depend on which comes first
 both-swapped : (k next next′ : ℕ) (ps qs : List ℕ) → length ps + length qs ≤ k → risesFrom next ps ≡ true → risesFrom next′ qs ≡ true → both ps qs ≡ both qs ps
-unfolding both
+unfolding both filter
 both-swapped k next next′ [] qs h e f = sym (both-none qs)
 both-swapped k next next′ (p ∷ ps) [] h e f = both-none (p ∷ ps)
 both-swapped zero next next′ (p ∷ ps) (q ∷ qs) h e f = absurd (omega arith)
@@ -138,7 +138,7 @@ keep-none true p ps e = refl
 keep-none false p ps e = absurd (false≢true e)
 
 only-none : (ps l : List ℕ) → ((p : ℕ) → List·Memᴰ p ps → on p l ≡ true) → only ps l ≡ []
-unfolding only
+unfolding only filter
 only-none [] l h = refl
 only-none (p ∷ ps) l h = keep-none (on p l) p (only ps l) (h p (List·Memᴰ·head refl)) ∙ only-none ps l (λ q m. h q (List·Memᴰ·tail m))
 
@@ -159,53 +159,69 @@ member-keep : (b : Bool) (p q : ℕ) (ps : List ℕ) → List·Memᴰ q ps → L
 member-keep true p q ps m = List·Memᴰ·tail m
 member-keep false p q ps m = m
 
--- A test of positions that a list is filtered by: those that pass are the list's own that pass.
-module _ (test : ℕ → Bool) (kept : List ℕ → List ℕ) (none : kept [] ≡ []) (some : (p : ℕ) (ps : List ℕ) → kept (p ∷ ps) ≡ keep (test p) p (kept ps)) where
-  kept-member : (q : ℕ) (ps : List ℕ) → List·Memᴰ q (kept ps) → List·Memᴰ q ps × (test q ≡ true)
-  kept-member q [] m = absurd (List·Memᴰ·not-nil (rw none at m))
-  kept-member q (p ∷ ps) m =
-      elim (keep-member (test p) p q (kept ps) (rw (some p ps) at m)) [
+-- the positions that pass a test, by membership, and in the order of the list that they are taken from
+module _ (f : ℕ → Bool) where
+  filter-member : (q : ℕ) (ps : List ℕ) → List·Memᴰ q (filter f ps) → List·Memᴰ q ps × (f q ≡ true)
+  unfolding filter
+  filter-member q [] m = absurd (List·Memᴰ·not-nil m)
+  filter-member q (p ∷ ps) m =
+      elim (keep-member (f p) p q (filter f ps) m) [
         | inl t ↦ (List·Memᴰ·head (t .0), rw (t .0) (t .1))
-        | inr k ↦ let r = kept-member q ps k in (List·Memᴰ·tail (r .0), r .1)
+        | inr k ↦ let r = filter-member q ps k in (List·Memᴰ·tail (r .0), r .1)
       ]
 
-  member-kept : (q : ℕ) (ps : List ℕ) → List·Memᴰ q ps → test q ≡ true → List·Memᴰ q (kept ps)
-  member-kept q [] m h = absurd (List·Memᴰ·not-nil m)
-  member-kept q (p ∷ ps) m h =
-      rw (some p ps) (elim (List·Memᴰ·cases-cons m) [
+  member-filter : (q : ℕ) (ps : List ℕ) → List·Memᴰ q ps → f q ≡ true → List·Memᴰ q (filter f ps)
+  unfolding filter
+  member-filter q [] m h = absurd (List·Memᴰ·not-nil m)
+  member-filter q (p ∷ ps) m h =
+      elim (List·Memᴰ·cases-cons m) [
         | inl e ↦ rw (← e, h) (List·Memᴰ·head refl)
-        | inr k ↦ member-keep (test p) p q (kept ps) (member-kept q ps k h)
-      ])
+        | inr k ↦ member-keep (f p) p q (filter f ps) (member-filter q ps k h)
+      ]
+
+  pub filter-iff : (q : ℕ) (ps : List ℕ) → List·Memᴰ q (filter f ps) ↔ (List·Memᴰ q ps × (f q ≡ true))
+  filter-iff q ps = (λ m. filter-member q ps m, λ r. member-filter q ps (r .0) (r .1))
+
+  filter-rises-from : (next : ℕ) (ps : List ℕ) → risesFrom next ps ≡ true → risesFrom next (filter f ps) ≡ true
+  unfolding filter
+  filter-rises-from next [] e = e
+  filter-rises-from next (p ∷ ps) e =
+      let t = rises-taken next p ps e in
+      go (f p) (t .0) (t .1) (filter-rises-from (p + 1) ps (t .2))
+    where
+      go : (b : Bool) → next ≤ p → p < limit → risesFrom (p + 1) (filter f ps) ≡ true → risesFrom next (keep b p (filter f ps)) ≡ true
+      go true h k r = rises-on next p (filter f ps) h k ∙ r
+      go false h k r = rises-lower next (p + 1) (filter f ps) (omega arith) r
+
+  pub filter-rises : (ps : List ℕ) → rising ps ≡ true → rising (filter f ps) ≡ true
+  unfolding rising
+  filter-rises ps e = filter-rises-from 0 ps e
 
 pub both-member : (q : ℕ) (ps l : List ℕ) → List·Memᴰ q (both ps l) ↔ (List·Memᴰ q ps × List·Memᴰ q l)
 unfolding both
-both-member q ps l = (
-  λ m. let r = kept-member (λ p. on p l) (λ qs. both qs l) refl (λ p qs. refl) q ps m in (r .0, on-member q l .0 (r .1)),
-  λ r. member-kept (λ p. on p l) (λ qs. both qs l) refl (λ p qs. refl) q ps (r .0) (on-member q l .1 (r .1)),
-)
+both-member q ps l =
+    let x = filter-iff (λ p. on p l) q ps in
+    (λ m. (x .0 m .0, on-member q l .0 (x .0 m .1)), λ r. x .1 (r .0, on-member q l .1 (r .1)))
 
 pub only-member : (q : ℕ) (ps l : List ℕ) → List·Memᴰ q (only ps l) ↔ (List·Memᴰ q ps × (List·Memᴰ q l → ⊥))
 unfolding only
 only-member q ps l = (
-  λ m.
-      let r = kept-member (λ p. not (on p l)) (λ qs. only qs l) refl (λ p qs. refl) q ps m in
-      (r .0, λ k. false≢true (sym (not-true (on q l) (r .1)) ∙ on-member q l .1 k)),
-  λ r.
-      member-kept (λ p. not (on p l)) (λ qs. only qs l) refl (λ p qs. refl) q ps (r .0) (rw (off (on q l) refl (r .1))),
+  λ m. let r = x .0 m in (r .0, λ k. false≢true (sym (not-true (on q l) (r .1)) ∙ on-member q l .1 k)),
+  λ r. x .1 (r .0, rw (off (on q l) refl (r .1))),
 )
   where
+    x : List·Memᴰ q (filter (λ p. not (on p l)) ps) ↔ (List·Memᴰ q ps × (not (on q l) ≡ true))
+    x = filter-iff (λ p. not (on p l)) q ps
+
     off : (b : Bool) → on q l ≡ b → (List·Memᴰ q l → ⊥) → on q l ≡ false
     off true e n = absurd (n (on-member q l .0 e))
     off false e n = e
 
--- and what two rising lists share rises
-pub both-rises : (next : ℕ) (ps l : List ℕ) → risesFrom next ps ≡ true → risesFrom next (both ps l) ≡ true
+-- what a rising list shares with another rises, and so does what it has alone: each position is counted once
+pub both-rises : (ps l : List ℕ) → rising ps ≡ true → rising (both ps l) ≡ true
 unfolding both
-both-rises next [] l e = e
-both-rises next (p ∷ ps) l e =
-    let t = rises-taken next p ps e in
-    go (on p l) (t .0) (t .1) (both-rises (p + 1) ps l (t .2))
-  where
-    go : (b : Bool) → next ≤ p → p < limit → risesFrom (p + 1) (both ps l) ≡ true → risesFrom next (keep b p (both ps l)) ≡ true
-    go true h k r = rises-on next p (both ps l) h k ∙ r
-    go false h k r = rises-lower next (p + 1) (both ps l) (omega arith) r
+both-rises ps l e = filter-rises (λ p. on p l) ps e
+
+pub only-rises : (ps l : List ℕ) → rising ps ≡ true → rising (only ps l) ≡ true
+unfolding only
+only-rises ps l e = filter-rises (λ p. not (on p l)) ps e

@@ -11,9 +11,9 @@ use mir.Val.{boolByte}
 use lib.Dec.{ltb}
 use lib.ListN.{length, getD, take, drop, length-append, length-drop, take-append-drop, drop-of-length-le}
 use lib.Seq.{length-take-le, take-suc, getD-drop, drop-drop}
-use Rattle.positions.specs.Encode.{risesFrom, rising}
+use Rattle.positions.specs.Rising.{risesFrom, rising}
 use Rattle.positions.proofs.Rising.{and-both, here, taken-here, rises-rest}
-use Rattle.marking.specs.Marks.{both}
+use Rattle.marking.specs.Marks.{filter, both}
 use Rattle.marking.proofs.Members.{both-same, both-less, both-more, both-common, both-none}
 
 -- what is left of a rising list, after the position at an index
@@ -131,7 +131,7 @@ module _ (key sheet : List ℕ) (i j n : ℕ) (k : i + n ≤ length key) (e : ri
 -- ---- nothing is shared past the end of either
 
 pub past-key : (key sheet : List ℕ) (i j : ℕ) → length key ≤ i → length (both (drop i key) (drop j sheet)) ≡ 0
-unfolding both
+unfolding both filter
 past-key key sheet i j h = rw (drop-of-length-le key h)
 
 pub past-sheet : (key sheet : List ℕ) (i j : ℕ) → length sheet ≤ j → length (both (drop i key) (drop j sheet)) ≡ 0

@@ -7,7 +7,7 @@ use native.Mathlib.Omega.{arith}
 use lib.ListN.{length, getD, take, drop}
 use lib.Seq.{sets}
 use Rattle.positions.specs.Basics.{limit}
-use Rattle.positions.specs.Encode.{rising}
+use Rattle.positions.specs.Rising.{rising}
 use Rattle.positions.proofs.Rising.{rises-length}
 use Rattle.positions.proofs.Stores.{sets-append}
 use Rattle.marking.specs.Marks.{Marks, marks}
@@ -49,12 +49,12 @@ small key sheet e f =
 
 module _ (counts : List ℕ) (i : ℕ) (h : i < length counts) where
   pub marks-here : (key cells : List ℕ) (at : ℕ)
-      → allMarks key (drop i counts) (drop at cells)
-      ≡ marks key (take (at + getD counts i 0 - at) (drop at cells)) ∷ allMarks key (drop (i + 1) counts) (drop (at + getD counts i 0) cells)
+      → allMarks key (drop at cells) (drop i counts)
+      ≡ marks key (take (at + getD counts i 0 - at) (drop at cells)) ∷ allMarks key (drop (at + getD counts i 0) cells) (drop (i + 1) counts)
   unfolding allMarks
   marks-here key cells at = rw (sheets-here counts i h cells at, part-is cells at (getD counts i 0))
 
-pub marks-end : (counts : List ℕ) (i : ℕ) → length counts ≤ i → (key cells : List ℕ) → allMarks key (drop i counts) cells ≡ []
+pub marks-end : (counts : List ℕ) (i : ℕ) → length counts ≤ i → (key cells : List ℕ) → allMarks key cells (drop i counts) ≡ []
 unfolding allMarks
 marks-end counts i h key cells = rw (sheets-end counts i h cells)
 

@@ -11,20 +11,23 @@ unfoldable pub on : ℕ → List ℕ → Bool
 on p [] = false
 on p (q ∷ qs) = eqb p q || on p qs
 
--- the position in front of the others where the test holds, else the others alone
+-- a position in front of the others where a test passed, else the others alone
 abbrev pub keep : Bool → ℕ → List ℕ → List ℕ
 keep true p ps = p ∷ ps
 keep false p ps = ps
 
+-- the positions of a list that pass a test
+unfoldable pub filter : (ℕ → Bool) → List ℕ → List ℕ
+filter f [] = []
+filter f (p ∷ ps) = keep (f p) p (filter f ps)
+
 -- the positions of the first list that are on the second too
 unfoldable pub both : List ℕ → List ℕ → List ℕ
-both [] other = []
-both (p ∷ ps) other = keep (on p other) p (both ps other)
+both ps other = filter (λ p. on p other) ps
 
--- the positions of the first list that are not on the second
+-- the positions of the first list only
 unfoldable pub only : List ℕ → List ℕ → List ℕ
-only [] other = []
-only (p ∷ ps) other = keep (not (on p other)) p (only ps other)
+only ps other = filter (λ p. not (on p other)) ps
 
 -- the three numbers of a sheet, and of a sitting; what document 02 calls false are the false positives
 pub record Marks : Type 0 where

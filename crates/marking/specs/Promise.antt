@@ -7,13 +7,13 @@ use Rattle.marking.specs.declared.MarkRefusal.{MarkRefusal}
 use Rattle.marking.specs.declared.MarkRefusal.the-variants.{TooManySheets, CountsDiffer, ListNotRising, TargetTooShort}
 use Rattle.marking.specs.declared.Totals.{Totals}
 use Rattle.marking.specs.declared.Marked.{Marked}
-use Rattle.marking.specs.declared.Marked.the-variants as code
-use Rattle.marking.specs.Marks as sheet
+use Rattle.marking.specs.declared.Marked.the-variants.{Accepted, Refused}
+use Rattle.marking.specs.Marks.{Marks}
 use Rattle.marking.specs.Sitting.{Verdict, refused, marked, verdict, reportOf, totalsOf}
 
 -- an answer as document 02 has it: three totals, or a refusal by its number
 pub data Answer : Type 0 where
-  totals : sheet.Marks → Answer
+  totals : Marks → Answer
   number : ℕ → Answer
 
 -- ---- the number of each refusal, and the answers of the code
@@ -24,12 +24,12 @@ markRefusal CountsDiffer = 16
 markRefusal ListNotRising = 8
 markRefusal TargetTooShort = 9
 
-abbrev pub totalled : Totals → sheet.Marks
+abbrev pub totalled : Totals → Marks
 totalled t = record { right = t .right; missed = t .missed; false-positives = t .«false_positives» }
 
 abbrev pub markGives : Marked → Answer
-markGives (code.All t) = totals (totalled t)
-markGives (code.Refused r) = number (markRefusal r)
+markGives (Accepted t) = totals (totalled t)
+markGives (Refused r) = number (markRefusal r)
 
 -- ---- the answer and the report, by the verdict
 
@@ -43,6 +43,6 @@ reportAfter (refused k) before = before
 reportAfter (marked ms) before = reportOf ms ++ drop (length (reportOf ms)) before
 
 -- the promise of `mark_sitting`, for a report that is `before` at entry and `after` at exit
-pub record Marks (key cells counts before : List ℕ) (r : Marked) (after : List ℕ) : Type 0 where
-  pub answer : markGives r ≡ answerOf (verdict key cells counts (length before))
-  pub report : after ≡ reportAfter (verdict key cells counts (length before)) before
+pub record MarksSitting (key sheets counts before : List ℕ) (r : Marked) (after : List ℕ) : Type 0 where
+  pub answer : markGives r ≡ answerOf (verdict key sheets counts (length before))
+  pub report : after ≡ reportAfter (verdict key sheets counts (length before)) before

@@ -4,7 +4,7 @@ ghost use mathlib.Core.Bool.{_&&_};
 ghost use Prim.Native.Nat.{_≤_};
 ghost use lib.ListN.{length};
 ghost use lib.Dec.{eqb};
-ghost use Rattle.positions.specs.Encode.{rising};
+ghost use Rattle.positions.specs.Rising.{rising};
 ghost use Rattle.marking.specs.Sitting.{sum, sheetsOf, allRise};
 
 // Whether the counts add up to the cells. What is left of the cells only falls, so no sum can wrap.
@@ -27,7 +27,7 @@ pub(crate) fn add_up(counts: &[u64], cells: usize) -> bool
 // Whether the key rises and each sheet by itself.
 pub(crate) fn all_rise(key: &[u32], sheets: &[u32], counts: &[u64]) -> bool
     requires { ⌜ sum (now counts) ≤ length (now sheets) ⌝ }
-    ensures { λ r. ⌜ r ≡ (rising (now (key .entry)) && allRise (sheetsOf (now (counts .entry)) (now (sheets .entry)))) ⌝ }
+    ensures { λ r. ⌜ r ≡ (rising (now (key .entry)) && allRise (sheetsOf (now (sheets .entry)) (now (counts .entry)))) ⌝ }
 {
     if !positions::rises(key) {
         return false;

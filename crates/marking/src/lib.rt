@@ -6,7 +6,7 @@ mod merge;
 mod report;
 
 ghost use mathlib.Core.Path.{_≡_};
-ghost use Rattle.marking.specs.Promise.{markRefusal, Marks};
+ghost use Rattle.marking.specs.Promise.{markRefusal, MarksSitting};
 
 // No more sheets than this are marked in one call.
 const SHEETS: usize = 256;
@@ -47,14 +47,14 @@ pub struct Totals {
 
 // The answer to a sitting.
 pub enum Marked {
-    All(Totals),
+    Accepted(Totals),
     Refused(MarkRefusal),
 }
 
 // Marks each sheet in turn: the report gets three cells for it, right, missed and false, and the cells after those stay.
 // The sheets lie one after the other in one run of cells, and `counts` says how many cells each has.
 pub fn mark_sitting(key: &[u32], sheets: &[u32], counts: &[u64], target: &mut [u32]) -> Marked
-    ensures { λ r. ⌜ Marks (now (key .entry)) (now (sheets .entry)) (now (counts .entry)) (now (target .entry)) r (now (target .exit)) ⌝ }
+    ensures { λ r. ⌜ MarksSitting (now (key .entry)) (now (sheets .entry)) (now (counts .entry)) (now (target .entry)) r (now (target .exit)) ⌝ }
 {
     if SHEETS < counts.len() {
         return Marked::Refused(MarkRefusal::TooManySheets);
@@ -68,5 +68,5 @@ pub fn mark_sitting(key: &[u32], sheets: &[u32], counts: &[u64], target: &mut [u
     if target.len() < 3 * counts.len() {
         return Marked::Refused(MarkRefusal::TargetTooShort);
     }
-    Marked::All(report::write(key, sheets, counts, target))
+    Marked::Accepted(report::write(key, sheets, counts, target))
 }

@@ -5,7 +5,7 @@ ghost use mathlib.Core.Path.{_≡_};
 ghost use mathlib.Core.Bool.{true};
 ghost use Prim.Native.Nat.{_+_, _≤_, _<_};
 ghost use lib.ListN.{length, take, drop};
-ghost use Rattle.positions.specs.Encode.{rising};
+ghost use Rattle.positions.specs.Rising.{rising};
 ghost use Rattle.marking.specs.Marks.{both};
 ghost use Rattle.marking.specs.Inner.{Passed};
 

@@ -5,7 +5,7 @@ ghost use mathlib.Core.List.{[], _∷_};
 ghost use Prim.Native.Nat.{_+_, _*_, _≤_};
 ghost use lib.ListN.{length};
 ghost use lib.Seq.{sets};
-ghost use Rattle.positions.specs.Encode.{rising};
+ghost use Rattle.positions.specs.Rising.{rising};
 ghost use Rattle.marking.specs.Sitting.{sum, sheetsOf, allRise, allMarks, reportOf, totalsOf};
 ghost use Rattle.marking.specs.Promise.{totalled};
 ghost use Rattle.marking.specs.Inner.{Sheet};
@@ -13,20 +13,20 @@ use crate::Totals;
 use crate::merge;
 
 // What one sheet comes to.
-pub(crate) struct Marks {
+pub(crate) struct SheetMarks {
     pub right: u32,
     pub missed: u32,
     pub false_positives: u32,
 }
 
 // Marks one sheet. Each list is its shared positions and the others, so that the merge need count the shared ones alone.
-fn sheet_marks(key: &[u32], sheet: &[u32]) -> Marks
+fn sheet_marks(key: &[u32], sheet: &[u32]) -> SheetMarks
     requires { ⌜ rising (now key) ≡ true ⌝ }
     requires { ⌜ rising (now sheet) ≡ true ⌝ }
     ensures { λ r. ⌜ Sheet (now (key .entry)) (now (sheet .entry)) r ⌝ }
 {
     let right = merge::right(key, sheet);
-    Marks {
+    SheetMarks {
         right: right as u32,
         missed: (key.len() - right) as u32,
         false_positives: (sheet.len() - right) as u32,
@@ -34,7 +34,7 @@ fn sheet_marks(key: &[u32], sheet: &[u32]) -> Marks
 }
 
 // Stores the three cells of a sheet.
-fn put(target: &mut [u32], at: usize, m: Marks)
+fn put(target: &mut [u32], at: usize, m: SheetMarks)
     requires { ⌜ at + 3 ≤ length (now target) ⌝ }
     ensures { λ _. ⌜ now (target .exit) ≡ sets (now (target .entry)) at (m .right ∷ m .missed ∷ m .«false_positives» ∷ []) ⌝ }
 {
@@ -48,10 +48,10 @@ pub(crate) fn write(key: &[u32], sheets: &[u32], counts: &[u64], target: &mut [u
     requires { ⌜ length (now counts) ≤ 256 ⌝ }
     requires { ⌜ sum (now counts) ≤ length (now sheets) ⌝ }
     requires { ⌜ rising (now key) ≡ true ⌝ }
-    requires { ⌜ allRise (sheetsOf (now counts) (now sheets)) ≡ true ⌝ }
+    requires { ⌜ allRise (sheetsOf (now sheets) (now counts)) ≡ true ⌝ }
     requires { ⌜ 3 * length (now counts) ≤ length (now target) ⌝ }
-    ensures totals { λ r. ⌜ totalled r ≡ totalsOf (allMarks (now (key .entry)) (now (counts .entry)) (now (sheets .entry))) ⌝ }
-    ensures stored { λ _. ⌜ now (target .exit) ≡ sets (now (target .entry)) 0 (reportOf (allMarks (now (key .entry)) (now (counts .entry)) (now (sheets .entry)))) ⌝ }
+    ensures totals { λ r. ⌜ totalled r ≡ totalsOf (allMarks (now (key .entry)) (now (sheets .entry)) (now (counts .entry))) ⌝ }
+    ensures stored { λ _. ⌜ now (target .exit) ≡ sets (now (target .entry)) 0 (reportOf (allMarks (now (key .entry)) (now (sheets .entry)) (now (counts .entry)))) ⌝ }
 {
     let mut right: u64 = 0;
     let mut missed: u64 = 0;

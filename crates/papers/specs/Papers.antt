@@ -68,4 +68,4 @@ pub record Papers : Type 0 where
       ∷ record { right = 2; missed = 1; false-positives = 1 }
       ∷ record { right = 0; missed = 3; false-positives = 0 }
       ∷ [])
-  pub sitting-totals : totalsOf (allMarks (allOccurrences R2 V2) (3 ∷ 3 ∷ 0 ∷ []) (0 ∷ 6 ∷ 12 ∷ 0 ∷ 7 ∷ 12 ∷ [])) ≡ record { right = 5; missed = 4; false-positives = 1 }
+  pub sitting-totals : totalsOf (allMarks (allOccurrences R2 V2) (0 ∷ 6 ∷ 12 ∷ 0 ∷ 7 ∷ 12 ∷ []) (3 ∷ 3 ∷ 0 ∷ [])) ≡ record { right = 5; missed = 4; false-positives = 1 }

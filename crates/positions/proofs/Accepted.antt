@@ -9,7 +9,8 @@ use borrow.Author.Tests.{lt-ltb, le-ltb, ltb-true}
 use lib.Dec.{ltb}
 use lib.Pow.{areBytes}
 use Rattle.positions.specs.Basics.{limit, Result, ok, fault}
-use Rattle.positions.specs.Encode.{encodeNumber, encodeFrom, risesFrom}
+use Rattle.positions.specs.Rising.{risesFrom}
+use Rattle.positions.specs.Encode.{encodeNumber, encodeFrom}
 use Rattle.positions.specs.Decode.{readGroups, readNumber, readPosition, readBody}
 use Rattle.positions.proofs.Groups.{one-byte, more-bytes}
 use Rattle.positions.proofs.Rising.{and-both, rises-on}

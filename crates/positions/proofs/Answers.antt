@@ -8,7 +8,8 @@ use native.Mathlib.Decide.{decLe}
 use borrow.Author.Tests.{le-leb, lt-leb}
 use lib.ListN.{length}
 use lib.Seq.{sets}
-use Rattle.positions.specs.Encode.{encode, rising}
+use Rattle.positions.specs.Rising.{rising}
+use Rattle.positions.specs.Encode.{encode}
 use Rattle.positions.specs.Promise.{count, refused, writeRefusal, sizeAnswer, writeAnswer, leaves, Writes}
 use Rattle.positions.specs.declared.WriteRefusal.{WriteRefusal}
 use Rattle.positions.specs.declared.Written.the-variants.{Bytes, Refused}

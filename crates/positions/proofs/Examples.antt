@@ -4,7 +4,8 @@ use Prim.Native.Nat.{_^_, _-_}
 use mathlib.Core.Path.{_≡_, refl}
 use mathlib.Core.List.{[], _∷_}
 use Rattle.positions.specs.Basics.{ok, fault}
-use Rattle.positions.specs.Encode.{encode, encodeFrom, encodeNumber, groups, rising, risesFrom}
+use Rattle.positions.specs.Rising.{rising, risesFrom}
+use Rattle.positions.specs.Encode.{encode, encodeFrom, encodeNumber, groups}
 use Rattle.positions.specs.Decode.{decode, whole, readBody, readPosition, readNumber, readGroups, lastGroup}
 use Rattle.positions.specs.Promise.{writeAnswer, count, refused, leaves, readCells}
 

@@ -9,7 +9,8 @@ use native.Mathlib.Decide.{decLt}
 use borrow.Author.Tests.{lt-ltb, le-ltb}
 use lib.ListN.{length}
 use Rattle.positions.specs.Basics.{limit, pick, ok, fault, isEmpty}
-use Rattle.positions.specs.Encode.{encodeNumber, encodeFrom, encode, risesFrom, rising}
+use Rattle.positions.specs.Rising.{risesFrom, rising}
+use Rattle.positions.specs.Encode.{encodeNumber, encodeFrom, encode}
 use Rattle.positions.specs.Decode.{readGroups, readNumber, readPosition, readBody, whole, decode}
 use Rattle.positions.proofs.Groups.{one-byte, more-bytes}
 use Rattle.positions.proofs.Rising.{rises-taken, rises-length}

@@ -12,7 +12,8 @@ use lib.ListN.{length, getD, drop, length-append, drop-of-length-le}
 use lib.Pow.{areBytes}
 use lib.Seq.{drop-cons}
 use Rattle.positions.specs.Basics.{limit}
-use Rattle.positions.specs.Encode.{encodeNumber, encodeFrom, encode, risesFrom, rising}
+use Rattle.positions.specs.Rising.{risesFrom, rising}
+use Rattle.positions.specs.Encode.{encodeNumber, encodeFrom, encode}
 use Rattle.positions.proofs.Groups.{number-bytes}
 
 pub and-both : (a b : Bool) → (a && b) ≡ true → (a ≡ true) × (b ≡ true)

@@ -9,7 +9,8 @@ use native.Mathlib.Decide.{decLe}
 use lib.ListN.{length}
 use lib.Pow.{areBytes}
 use Rattle.positions.specs.Basics.{pick, Result, ok, fault, isEmpty}
-use Rattle.positions.specs.Encode.{encodeNumber, encodeFrom, encode, rising}
+use Rattle.positions.specs.Rising.{rising}
+use Rattle.positions.specs.Encode.{encodeNumber, encodeFrom, encode}
 use Rattle.positions.specs.Decode.{readNumber, readBody, whole, decode}
 use Rattle.positions.specs.Inner.{accepts, positionsOf}
 use Rattle.positions.proofs.ReadGroups.{fault-ok, ok-same}

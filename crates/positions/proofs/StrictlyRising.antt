@@ -6,7 +6,7 @@ use mathlib.Core.List.{List, [], _∷_}
 use native.Mathlib.Omega.{arith}
 use lib.ListN.{length, getD}
 use Rattle.positions.specs.Basics.{limit}
-use Rattle.positions.specs.Encode.{risesFrom, rising}
+use Rattle.positions.specs.Rising.{risesFrom, rising}
 use Rattle.positions.proofs.Rising.{rises-on, rises-taken}
 
 pub record StrictlyRising (l : List ℕ) : Type 0 where

@@ -5,7 +5,7 @@ use mathlib.Core.Path.{_≡_}
 use mathlib.Core.Bool.{true}
 use mathlib.Core.List.{List, _++_}
 use lib.ListN.{length, drop}
-use Rattle.positions.specs.Encode.{rising}
+use Rattle.positions.specs.Rising.{rising}
 use Rattle.positions.specs.declared.Written.{Written}
 use Rattle.positions.specs.declared.Written.the-variants.{Bytes}
 use Rattle.positions.specs.declared.ReadAnswer.{ReadAnswer}

@@ -1,10 +1,9 @@
 -- What the writer writes: a number in groups of seven bits (a varint, LEB128), and a list.
 use Prim.Native.Nat.{ℕ, zero, suc, _+_, _-_, _/_, _%_}
-use mathlib.Core.Bool.{Bool, true, _&&_}
 use mathlib.Core.List.{List, [], _∷_, _++_}
 use lib.ListN.{length}
-use lib.Dec.{leb, ltb}
-use Rattle.positions.specs.Basics.{limit, pick}
+use lib.Dec.{ltb}
+use Rattle.positions.specs.Basics.{pick}
 
 -- Document 01: "groups of seven bits, lowest group first, one byte a group, with 128 added when another follows, in the fewest
 -- groups". The first argument bounds how many groups may follow.
@@ -27,12 +26,3 @@ encodeFrom next (p ∷ ps) = encodeNumber (p - next) ++ encodeFrom (p + 1) ps
 -- Document 01: "The file holds the count, the first position, .."
 unfoldable pub encode : List ℕ → List ℕ
 encode l = encodeNumber (length l) ++ encodeFrom 0 l
-
--- Document 01: "Positions rise strictly and are below 2^30", from the least position that may come
-unfoldable pub risesFrom : ℕ → List ℕ → Bool
-risesFrom next [] = true
-risesFrom next (p ∷ ps) = leb next p && (ltb p limit && risesFrom (p + 1) ps)
-
--- a list that the writer takes
-unfoldable pub rising : List ℕ → Bool
-rising l = risesFrom 0 l

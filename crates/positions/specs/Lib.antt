@@ -1,5 +1,6 @@
 -- What the contracts of the crate cite, and the claim about two calls (`CallToCall`).
 pub mod Basics
+pub mod Rising
 pub mod Encode
 pub mod Decode
 pub mod Promise

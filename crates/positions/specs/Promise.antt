@@ -5,7 +5,8 @@ use mathlib.Core.List.{List, _++_}
 use lib.ListN.{length, drop}
 use lib.Dec.{leb}
 use Rattle.positions.specs.Basics.{pick, Result, ok, fault}
-use Rattle.positions.specs.Encode.{encode, rising}
+use Rattle.positions.specs.Rising.{rising}
+use Rattle.positions.specs.Encode.{encode}
 use Rattle.positions.specs.Decode.{decode}
 use Rattle.positions.specs.declared.WriteRefusal.{WriteRefusal}
 use Rattle.positions.specs.declared.WriteRefusal.the-variants.{ListNotRising, TargetTooShort}

@@ -7,7 +7,7 @@
 #include "parts.h"
 #include "sitting_call.h"
 
-enum { ROUNDS = 600, MOST_POSITIONS = 80, MOST_SHEETS = 6, CELLS = MITONGORY_MARK_CELLS };
+enum { ROUNDS = 600, MOST_POSITIONS = 80, MOST_SHEETS = 6, CELLS = MITONGORY_SHEET_CELLS };
 
 static int is_on(uint32_t position, const uint32_t *list, uint64_t count)
 {

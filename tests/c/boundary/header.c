@@ -45,7 +45,7 @@ static void numbers_of_a_sitting(void)
 {
     about("a sitting");
     check(MITONGORY_SHEETS == 256, "sheets");
-    check(MITONGORY_MARK_CELLS == 3, "cells of a sheet");
+    check(MITONGORY_SHEET_CELLS == 3, "cells of a sheet");
     check(MITONGORY_RIGHT == 0 && MITONGORY_MISSED == 1 && MITONGORY_FALSE_POSITIVES == 2, "the order of the cells");
     check(MITONGORY_TOO_MANY_SHEETS == 15 && MITONGORY_COUNTS_DIFFER == 16, "refusals");
 }

@@ -191,7 +191,7 @@ static void long_sittings(void)
     const uint32_t *key = paper2_occurrences;
     const size_t key_len = PAPER2_OCCURRENCES;
     const uint64_t count = PAPER2_OCCURRENCES, none = 0, all = length;
-    uint32_t report[MITONGORY_MARK_CELLS], *cells = huge;
+    uint32_t report[MITONGORY_SHEET_CELLS], *cells = huge;
     uint64_t *told = huge;
     about("a sitting with a length of 33 bits");
     check(mitongory_mark_sitting(huge, length, key, key_len, &count, 1, report, 3, answer, 3) == MITONGORY_LIST_NOT_RISING,
@@ -214,14 +214,14 @@ static void long_sittings(void)
 static void long_total(void)
 {
     static const uint64_t counts[MITONGORY_SHEETS];
-    static uint32_t report[MITONGORY_SHEETS * MITONGORY_MARK_CELLS];
-    const uint32_t key_len = (uint32_t)(TWO_TO_32 / MITONGORY_SHEETS), last = (MITONGORY_SHEETS - 1) * MITONGORY_MARK_CELLS;
+    static uint32_t report[MITONGORY_SHEETS * MITONGORY_SHEET_CELLS];
+    const uint32_t key_len = (uint32_t)(TWO_TO_32 / MITONGORY_SHEETS), last = (MITONGORY_SHEETS - 1) * MITONGORY_SHEET_CELLS;
     uint32_t *key = huge, i;
     about("a total of 33 bits");
     for (i = 0; i < key_len; i++)
         key[i] = i;
     check(mitongory_mark_sitting(key, key_len, key, 0, counts, MITONGORY_SHEETS, report, sizeof report / sizeof *report,
-                                 answer, MITONGORY_MARK_CELLS) == MITONGORY_OK,
+                                 answer, MITONGORY_SHEET_CELLS) == MITONGORY_OK,
           "result");
     check(report[last + MITONGORY_MISSED] == key_len, "what the last sheet misses");
     check(answer[MITONGORY_RIGHT] == 0 && answer[MITONGORY_MISSED] == TWO_TO_32 && answer[MITONGORY_FALSE_POSITIVES] == 0,

@@ -61,7 +61,7 @@ static void same_buffer(void)
               MITONGORY_OK,
           "result");
     check(list[MITONGORY_RIGHT] == count && list[MITONGORY_MISSED] == 0 && list[MITONGORY_FALSE_POSITIVES] == 0 &&
-              list[MITONGORY_MARK_CELLS] == 1,
+              list[MITONGORY_SHEET_CELLS] == 1,
           "report");
     about("one buffer as text and pattern");
     check(mitongory_search(both, PAPER2_PATTERN_BYTES, PAPER2_M, both, PAPER2_PATTERN_BYTES, PAPER2_M, MITONGORY_WIDE, 0, 9,

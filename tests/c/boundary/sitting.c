@@ -7,7 +7,7 @@
 #include "parts.h"
 #include "sitting_call.h"
 
-enum { CELLS = MITONGORY_MARK_CELLS, SHEETS = MITONGORY_SHEETS, MORE = 7 }; /* MORE: elements more than needed */
+enum { CELLS = MITONGORY_SHEET_CELLS, SHEETS = MITONGORY_SHEETS, MORE = 7 }; /* MORE: elements more than needed */
 
 /* The second paper's occurrences as the key; on the sheets all of them, two of them and a wrong one, and none. */
 static const uint32_t paper_sheets[] = {0, 6, 12, 0, 7, 12};

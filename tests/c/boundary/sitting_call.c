@@ -7,7 +7,7 @@ struct sitting sitting_of(const uint32_t *key, size_t key_len, const uint32_t *s
                           const uint64_t *counts, size_t counts_len)
 {
     struct sitting s = {key,    key_len,    sheets, sheets_len,
-                        counts, counts_len, counts_len * MITONGORY_MARK_CELLS, MITONGORY_MARK_CELLS};
+                        counts, counts_len, counts_len * MITONGORY_SHEET_CELLS, MITONGORY_SHEET_CELLS};
     return s;
 }
 
@@ -39,11 +39,11 @@ static void expect(const char *name, const struct sitting *s, uint32_t result, c
 
 void marked(const char *name, struct sitting s, const uint32_t *report)
 {
-    const size_t cells = s.counts_len * MITONGORY_MARK_CELLS;
-    uint64_t totals[MITONGORY_MARK_CELLS] = {0};
+    const size_t cells = s.counts_len * MITONGORY_SHEET_CELLS;
+    uint64_t totals[MITONGORY_SHEET_CELLS] = {0};
     size_t i;
     for (i = 0; i < cells; i++)
-        totals[i % MITONGORY_MARK_CELLS] += report[i];
+        totals[i % MITONGORY_SHEET_CELLS] += report[i];
     expect(name, &s, MITONGORY_OK, report, cells * sizeof *report, totals, sizeof totals);
 }
 

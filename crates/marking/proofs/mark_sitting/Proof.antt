@@ -5,7 +5,7 @@ use mathlib.Core.Path.{sym, _∙_}
 use native.Mathlib.Omega.{arith}
 use borrow.Author.Tests.{not-true, not-false, eqb-true}
 use lib.ListN.{length}
-use Rattle.positions.specs.Encode.{rising}
+use Rattle.positions.specs.Rising.{rising}
 use Rattle.positions.proofs.Rising.{and-both}
 use Rattle.marking.specs.Sitting.{sum, sheetsOf, allRise}
 use Rattle.marking.specs.declared.MarkRefusal.the-variants.{TooManySheets, CountsDiffer, ListNotRising, TargetTooShort}
@@ -56,7 +56,7 @@ write-requires c κs =
     let a = c .before .before .before .before .before .before .before .before .before .before .before .args in
     let same = sym (c .before .before .before .before .before .add-up .ensures) ∙ not-false (c .before .before .before .before .before .add-up .result) (c .before .before .before .before .if2 .left) in
     let rise = sym (c .before .before .before .all-rise .ensures) ∙ not-false (c .before .before .before .all-rise .result) (c .before .before .if3 .left) in
-    let both = and-both (rising (a .key .now)) (allRise (sheetsOf (a .counts .now) (a .sheets .now))) rise in
+    let both = and-both (rising (a .key .now)) (allRise (sheetsOf (a .sheets .now) (a .counts .now))) rise in
     (c .before .before .before .before .before .before .if1 .left, (omega (arith, eqb-true (sum (a .counts .now)) (length (a .sheets .now)) same), (both .0, (both .1, c .before .if4 .left))))
 
 same-length : tie.Need-same-length

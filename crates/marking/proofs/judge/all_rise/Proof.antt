@@ -8,7 +8,7 @@ use native.Mathlib.Omega.{arith}
 use borrow.Author.Needs.{needs}
 use borrow.Author.Tests.{not-true, not-false}
 use lib.ListN.{length, drop}
-use Rattle.positions.specs.Encode.{rising}
+use Rattle.positions.specs.Rising.{rising}
 use Rattle.marking.specs.Sitting.{sum, sheetsOf, allRise}
 use Rattle.marking.proofs.Counting.{sum-here, rise-here, sheets-end}
 use Rattle.marking.proofs.judge.all_rise.Statement.{statement}
@@ -16,7 +16,7 @@ use Rattle.marking.proofs.judge.all_rise.Tie as tie
 
 abbrev Inv-loop : tie.InvT-loop
 Inv-loop key sheets counts at₀ i₀ at i =
-    (allRise (sheetsOf (drop i counts) (drop at sheets)) ≡ (rising key && allRise (sheetsOf counts sheets)))
+    (allRise (sheetsOf (drop at sheets) (drop i counts)) ≡ (rising key && allRise (sheetsOf sheets counts)))
     × (at + sum (drop i counts) ≤ length sheets)
 
 abbrev μ-loop : tie.MeasureT-loop

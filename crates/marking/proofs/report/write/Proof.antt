@@ -22,12 +22,12 @@ abbrev Inv-loop : tie.InvT-loop
 Inv-loop key sheets counts target₀ right₀ missed₀ false-positives₀ at₀ i₀ target right missed false-positives at i =
     (i ≤ length counts)
     × (at + sum (drop i counts) ≤ length sheets)
-    × (allRise (sheetsOf (drop i counts) (drop at sheets)) ≡ true)
+    × (allRise (sheetsOf (drop at sheets) (drop i counts)) ≡ true)
     × (length target ≡ length target₀)
-    × (sets target (3 * i) (reportOf (allMarks key (drop i counts) (drop at sheets))) ≡ sets target₀ 0 (reportOf (allMarks key counts sheets)))
-    × (right + totalsOf (allMarks key (drop i counts) (drop at sheets)) .right ≡ totalsOf (allMarks key counts sheets) .right)
-    × (missed + totalsOf (allMarks key (drop i counts) (drop at sheets)) .missed ≡ totalsOf (allMarks key counts sheets) .missed)
-    × (false-positives + totalsOf (allMarks key (drop i counts) (drop at sheets)) .false-positives ≡ totalsOf (allMarks key counts sheets) .false-positives)
+    × (sets target (3 * i) (reportOf (allMarks key (drop at sheets) (drop i counts))) ≡ sets target₀ 0 (reportOf (allMarks key sheets counts)))
+    × (right + totalsOf (allMarks key (drop at sheets) (drop i counts)) .right ≡ totalsOf (allMarks key sheets counts) .right)
+    × (missed + totalsOf (allMarks key (drop at sheets) (drop i counts)) .missed ≡ totalsOf (allMarks key sheets counts) .missed)
+    × (false-positives + totalsOf (allMarks key (drop at sheets) (drop i counts)) .false-positives ≡ totalsOf (allMarks key sheets counts) .false-positives)
     × (right ≤ i * limit)
     × (missed ≤ i * limit)
     × (false-positives ≤ i * limit)
@@ -132,7 +132,7 @@ loop-again c =
     let sheet = take (l .at + getD (a .counts .now) (l .i) 0 - l .at) (drop (l .at) (a .sheets .now)) in
     let few = small (a .key .now) sheet (c .before .before .before .before .before .before .before .before .before .before .before .before .before .before .before .before .pre .1 .1 .0) (rise-taken (a .counts .now) (l .i) inside (a .sheets .now) (l .at) (l .inv .2) .0) in
     let m = c .before .before .before .before .before .before .before .sheet-marks in
-    let rest = allMarks (a .key .now) (drop (l .i + 1) (a .counts .now)) (drop (l .at + getD (a .counts .now) (l .i) 0) (a .sheets .now)) in
+    let rest = allMarks (a .key .now) (drop (l .at + getD (a .counts .now) (l .i) 0) (a .sheets .now)) (drop (l .i + 1) (a .counts .now)) in
     let here = marks-here (a .counts .now) (l .i) inside (a .key .now) (a .sheets .now) (l .at) in
     let mark = marks (a .key .now) sheet in
     let put = c .before .before .before .before .before .put in (

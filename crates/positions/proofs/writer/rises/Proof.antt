@@ -9,7 +9,7 @@ use borrow.Author.Needs.{needs}
 use lib.Dec.{ltb}
 use lib.ListN.{length, getD, drop}
 use Rattle.positions.specs.Basics.{limit}
-use Rattle.positions.specs.Encode.{risesFrom, rising}
+use Rattle.positions.specs.Rising.{risesFrom, rising}
 use Rattle.positions.proofs.Rising.{found-here, rises-first, rises-end, rises-none}
 use Rattle.positions.proofs.writer.rises.Statement.{statement}
 use Rattle.positions.proofs.writer.rises.Tie as tie

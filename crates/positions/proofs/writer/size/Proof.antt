@@ -8,7 +8,8 @@ use native.Mathlib.Omega.{arith}
 use borrow.Author.Needs.{needs}
 use lib.ListN.{length, drop}
 use Rattle.positions.specs.Basics.{limit}
-use Rattle.positions.specs.Encode.{encodeFrom, encode, risesFrom, rising}
+use Rattle.positions.specs.Rising.{risesFrom, rising}
+use Rattle.positions.specs.Encode.{encodeFrom, encode}
 use Rattle.positions.specs.Promise.{count}
 use Rattle.positions.proofs.Rising.{low-here, large-here, on-here, size-here, rises-end, encode-end, size-list}
 use Rattle.positions.proofs.Answers.{size-refused, size-counted}

@@ -8,7 +8,8 @@ use native.Mathlib.Omega.{arith}
 use borrow.Author.Needs.{needs}
 use lib.ListN.{length, drop, getD}
 use lib.Seq.{sets}
-use Rattle.positions.specs.Encode.{encodeNumber, encodeFrom, encode, risesFrom, rising}
+use Rattle.positions.specs.Rising.{risesFrom, rising}
+use Rattle.positions.specs.Encode.{encodeNumber, encodeFrom, encode}
 use Rattle.positions.proofs.Stores.{sets-append}
 use Rattle.positions.proofs.Rising.{rises-length, taken-here, encode-here, size-here, encode-end, size-list}
 use Rattle.positions.proofs.writer.store.Statement.{statement}
