@@ -66,7 +66,7 @@ def build():
         if made.returncode:
             sys.exit(made.stdout.decode(errors="replace") + "sitting.py: make lib failed")
         folder = os.path.join(TOP, "target", "lib")
-    out = os.path.join(TOP, "target", "sitting")
+    out = os.path.join(TOP, "target", "python")
     os.makedirs(out, exist_ok=True)
     shared = os.path.join(out, "libmitongory.so")
     archive = os.path.join(folder, "libmitongory.a")
