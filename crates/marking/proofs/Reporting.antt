@@ -31,7 +31,23 @@ pub right-false : (key sheet : List ℕ) → rising key ≡ true → rising shee
 unfolding marks
 right-false key sheet e f = omega (arith, ap length (both-swap key sheet e f), both-only sheet key)
 
--- so no number of a sheet is above 2^30
+-- so, for what was counted as right
+pub record Parts (key sheet : List ℕ) (right : ℕ) : Type 0 where
+  pub key-short : length key ≤ limit
+  pub sheet-short : length sheet ≤ limit
+  pub in-key : right + marks key sheet .missed ≡ length key
+  pub on-sheet : right + marks key sheet .false-positives ≡ length sheet
+
+pub parts : (key sheet : List ℕ) (right : ℕ) → rising key ≡ true → rising sheet ≡ true → right ≡ marks key sheet .right → Parts key sheet right
+parts key sheet right e f r =
+    record {
+      key-short = rising-length key e;
+      sheet-short = rising-length sheet f;
+      in-key = omega (arith, right-missed key sheet);
+      on-sheet = omega (arith, right-false key sheet e f);
+    }
+
+-- and no number of a sheet is above 2^30
 pub record Small (m : Marks) : Type 0 where
   pub right-most : m .right ≤ limit
   pub missed-most : m .missed ≤ limit
@@ -39,10 +55,7 @@ pub record Small (m : Marks) : Type 0 where
 
 pub small : (key sheet : List ℕ) → rising key ≡ true → rising sheet ≡ true → Small (marks key sheet)
 small key sheet e f =
-    let k = rising-length key e in
-    let s = rising-length sheet f in
-    let in-key = right-missed key sheet in
-    let on-sheet = right-false key sheet e f in
+    let p = parts key sheet (marks key sheet .right) e f refl in
     record { right-most = omega arith; missed-most = omega arith; false-most = omega arith }
 
 -- ---- the sheets that are left
