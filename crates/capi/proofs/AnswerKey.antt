@@ -36,7 +36,7 @@ use Rattle.capi.specs.CallList.{Made, AllMade, joined, lastStop}
 use Rattle.capi.specs.Sitting.{SittingMarked}
 use Rattle.capi.specs.AnswerKey.{occurring, IsKey, RightOccur}
 use Rattle.capi.proofs.CallList.{finished}
-use Rattle.capi.proofs.SittingCalls.{sat-holds, sat-rises}
+use Rattle.capi.proofs.SittingCalls.{marked-holds, marked-rises}
 
 -- ---- a text and a pattern that a search takes
 
@@ -157,5 +157,5 @@ pub right-occur : (t : Packed) (w : Pattern) (calls : List Made) {sheets counts 
     → RightOccur t w sheets counts report′
 unfolding marks
 right-occur t w calls {sheets} {counts} m h s i k =
-    sat-holds s .right-are i k
-    ∙ found-key t w calls m h .right-is (sheetAt sheets counts i) (sat-rises s i k)
+    marked-holds s .right-are i k
+    ∙ found-key t w calls m h .right-is (sheetAt sheets counts i) (marked-rises s i k)

@@ -72,12 +72,12 @@ pub read : {file cells answer cells′ answer′ : List ℕ} {r : ℕ}
 unfolding readVerdict
 read f = record { tells = f .tells; cells-is = f .buffer-is }
 
-pub sat : {key sheets counts report answer report′ answer′ : List ℕ} {r : ℕ}
+pub marked : {key sheets counts report answer report′ answer′ : List ℕ} {r : ℕ}
     → Filled 3 sittingTells (λ v. reportAfter v report) (sitting.refused answerCellsMissing) (sitting.verdict key sheets counts (length report))
     answer r report′ answer′
     → SittingMarked key sheets counts report answer r report′ answer′
 unfolding sittingVerdict
-sat f = record { tells = f .tells; report-is = f .buffer-is }
+marked f = record { tells = f .tells; report-is = f .buffer-is }
 
 -- ---- the search call
 

@@ -37,15 +37,15 @@ accepted {key} {sheets} {counts} {report} {answer} {report′} {answer′} s = g
     go true h = absurd (omega (arith, rw h at (s .tells .result-is)))
     go false h = own (verdict key sheets counts (length report)) refl (rw h at (s .tells)) (rw h at (s .report-is))
 
-pub sat-holds : {key sheets counts report answer report′ answer′ : List ℕ} → SittingMarked key sheets counts report answer 0 report′ answer′
+pub marked-holds : {key sheets counts report answer report′ answer′ : List ℕ} → SittingMarked key sheets counts report answer 0 report′ answer′
     → Holds key sheets counts report report′ (toldTotals answer′)
-sat-holds {key} {sheets} {counts} {report} {answer} {report′} {answer′} s =
+marked-holds {key} {sheets} {counts} {report} {answer} {report′} {answer′} s =
     let a = accepted s in
     holds-of key sheets counts report report′ (a .ms) (judged key sheets counts (length report) (a .ms) (a .is)) (a .report-is) (toldTotals answer′) (a .totals-are)
 
 -- and each sheet of it rises
-pub sat-rises : {key sheets counts report answer report′ answer′ : List ℕ} → SittingMarked key sheets counts report answer 0 report′ answer′
+pub marked-rises : {key sheets counts report answer report′ answer′ : List ℕ} → SittingMarked key sheets counts report answer 0 report′ answer′
     → (i : ℕ) → i < length counts → rising (sheetAt sheets counts i) ≡ true
-sat-rises {key} {sheets} {counts} {report} s i h =
+marked-rises {key} {sheets} {counts} {report} s i h =
     let a = accepted s in
     sheet-rises counts sheets i h (judged key sheets counts (length report) (a .ms) (a .is) .sheets-rise)

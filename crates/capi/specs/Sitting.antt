@@ -27,6 +27,6 @@ pub record SittingMarked (key sheets counts report answer : List ℕ) (result : 
   pub report-is : report′ ≡ reportAfter (sittingVerdict key sheets counts report answer) report
 
 -- The totals that an accepted call told. What holds of every accepted call of the library (`Holds` of the crate marking) holds here with
--- these totals: `sat-holds` of proofs/SittingCalls.antt.
+-- these totals: `marked-holds` of proofs/SittingCalls.antt.
 abbrev pub toldTotals : List ℕ → Marks
 toldTotals answer = record { right = getD answer 0 0; missed = getD answer 1 0; false-positives = getD answer 2 0 }

@@ -2,6 +2,7 @@
 use Prim.Native.Nat.{ℕ, zero, suc, _+_, _*_, _-_, _≤_, _<_}
 use mathlib.Core.Path.{_≡_, refl, sym, ap, _∙_}
 use mathlib.Core.Bool.{Bool, true, false, _&&_}
+use mathlib.Core.Logic.{_⊎_, inl, inr}
 use mathlib.Core.List.{List, [], _∷_, _++_, map}
 use native.Mathlib.Omega.{arith}
 use native.Mathlib.Decide.{decLe}
@@ -31,53 +32,55 @@ pub record Judged (key cells counts : List ℕ) (room : ℕ) (ms : List Marks) :
   pub fits : 3 * length counts ≤ room
   pub are : ms ≡ allMarks key cells counts
 
-pub judged : (key cells counts : List ℕ) (room : ℕ) (ms : List Marks) → verdict key cells counts room ≡ marked ms → Judged key cells counts room ms
-judged key cells counts room ms e =
+-- the verdict is one of the four refusals, or that of a good input
+decided : (key cells counts : List ℕ) (room : ℕ)
+    → ((k : ℕ) × (8 ≤ k) × (verdict key cells counts room ≡ refused k))
+    ⊎ (Judged key cells counts room (allMarks key cells counts) × (verdict key cells counts room ≡ marked (allMarks key cells counts)))
+decided key cells counts room =
     elim (decLe (length counts) 256) [
       | yes few ↦ counted few (eqb (sum counts) (length cells)) refl
-      | no h ↦ absurd (never 15 (many-sheets key cells counts room (omega arith)))
+      | no h ↦ inl (15, omega arith, many-sheets key cells counts room (omega arith))
     ]
   where
-    never : (k : ℕ) → verdict key cells counts room ≡ refused k → ⊥
-    never k h = let z : _≡_ {A = ℕ} 0 1 = cc in omega arith
+    Decided : Type 0
+    Decided =
+        ((k : ℕ) × (8 ≤ k) × (verdict key cells counts room ≡ refused k))
+        ⊎ (Judged key cells counts room (allMarks key cells counts) × (verdict key cells counts room ≡ marked (allMarks key cells counts)))
 
-    risen : (few : length counts ≤ 256) (same : eqb (sum counts) (length cells) ≡ true) (b : Bool) → (rising key && allRise (sheetsOf cells counts)) ≡ b → Judged key cells counts room ms
-    risen few same false h = absurd (never 8 (not-rising key cells counts room few same h))
+    risen : (few : length counts ≤ 256) (same : eqb (sum counts) (length cells) ≡ true) (b : Bool) → (rising key && allRise (sheetsOf cells counts)) ≡ b → Decided
+    risen few same false h = inl (8, omega arith, not-rising key cells counts room few same h)
     risen few same true h =
         let r = and-both (rising key) (allRise (sheetsOf cells counts)) h in
         elim (decLe (3 * length counts) room) [
           | yes fits ↦
-              let m = all-marked key cells counts room few same h fits in
-              record { few = few; same = eqb-true (sum counts) (length cells) same; key-rises = r .0; sheets-rise = r .1; fits = fits; are = cc }
-          | no k ↦ absurd (never 9 (report-short key cells counts room few same h (omega arith)))
+              inr (
+                record { few = few; same = eqb-true (sum counts) (length cells) same; key-rises = r .0; sheets-rise = r .1; fits = fits; are = refl },
+                all-marked key cells counts room few same h fits,
+              )
+          | no f ↦ inl (9, omega arith, report-short key cells counts room few same h (omega arith))
         ]
 
-    counted : length counts ≤ 256 → (b : Bool) → eqb (sum counts) (length cells) ≡ b → Judged key cells counts room ms
-    counted few false h = absurd (never 16 (counts-differ key cells counts room few h))
+    counted : length counts ≤ 256 → (b : Bool) → eqb (sum counts) (length cells) ≡ b → Decided
+    counted few false h = inl (16, omega arith, counts-differ key cells counts room few h)
     counted few true h = risen few h (rising key && allRise (sheetsOf cells counts)) refl
+
+pub judged : (key cells counts : List ℕ) (room : ℕ) (ms : List Marks) → verdict key cells counts room ≡ marked ms → Judged key cells counts room ms
+judged key cells counts room ms e =
+    elim (decided key cells counts room) [
+      | inl r ↦ let f = r .2 in absurd (let z : _≡_ {A = ℕ} 0 1 = cc in omega arith)
+      | inr d ↦
+          let f = d .1 in
+          let same : allMarks key cells counts ≡ ms = cc in
+          rw (← same) (d .0)
+    ]
 
 -- every refusal is one of 8, 9, 15, 16
 pub refused-least : (key cells counts : List ℕ) (room k : ℕ) → verdict key cells counts room ≡ refused k → 8 ≤ k
 refused-least key cells counts room k e =
-    elim (decLe (length counts) 256) [
-      | yes few ↦ counted few (eqb (sum counts) (length cells)) refl
-      | no h ↦ least 15 (many-sheets key cells counts room (omega arith)) (omega arith)
+    elim (decided key cells counts room) [
+      | inl r ↦ let f = r .2 in let s : r .0 ≡ k = cc in omega (arith, r .1)
+      | inr d ↦ let f = d .1 in absurd (let z : _≡_ {A = ℕ} 0 1 = cc in omega arith)
     ]
-  where
-    least : (n : ℕ) → verdict key cells counts room ≡ refused n → 8 ≤ n → 8 ≤ k
-    least n h l = let s : n ≡ k = cc in omega arith
-
-    risen : (few : length counts ≤ 256) (same : eqb (sum counts) (length cells) ≡ true) (b : Bool) → (rising key && allRise (sheetsOf cells counts)) ≡ b → 8 ≤ k
-    risen few same false h = least 8 (not-rising key cells counts room few same h) (omega arith)
-    risen few same true h =
-        elim (decLe (3 * length counts) room) [
-          | yes fits ↦ let m = all-marked key cells counts room few same h fits in let z : _≡_ {A = ℕ} 0 1 = cc in absurd (omega arith)
-          | no f ↦ least 9 (report-short key cells counts room few same h (omega arith)) (omega arith)
-        ]
-
-    counted : length counts ≤ 256 → (b : Bool) → eqb (sum counts) (length cells) ≡ b → 8 ≤ k
-    counted few false h = least 16 (counts-differ key cells counts room few h) (omega arith)
-    counted few true h = risen few h (rising key && allRise (sheetsOf cells counts)) refl
 
 -- ---- a sheet by its number
 

@@ -4,13 +4,13 @@
 use mathlib.Core.Path.{refl, ap}
 use native.Mathlib.Omega.{arith}
 use Rattle.capi.specs.Sitting.{totalsTell}
-use Rattle.capi.proofs.Calling.{none-filled, refusal-filled, number-filled, sat}
+use Rattle.capi.proofs.Calling.{none-filled, refusal-filled, number-filled, marked}
 use borrow.Author.Needs.{needs}
 use Rattle.capi.proofs.sitting.mitongory_mark_sitting.Statement.{statement}
 use Rattle.capi.proofs.sitting.mitongory_mark_sitting.Tie as tie
 
 returns : tie.Need-returns
-returns c = sat (none-filled (omega arith) refl)
+returns c = marked (none-filled (omega arith) refl)
 
 mark-sitting-requires : tie.Need-mark-sitting-requires
 mark-sitting-requires c κs = search needs
@@ -34,7 +34,7 @@ returns-2 : tie.Need-returns-2
 returns-2 c =
     let at = c .before .before .before .before .before .before in
     let told = rw (c .before .before .marked .given .1) at (at .mark-sitting .ensures .answer) in
-    sat (refusal-filled (omega arith) (ap totalsTell told) (at .mark-sitting .ensures .report) (c .number .ensures))
+    marked (refusal-filled (omega arith) (ap totalsTell told) (at .mark-sitting .ensures .report) (c .number .ensures))
 
 same-length-2 : tie.Need-same-length-2
 same-length-2 c = search needs
@@ -46,7 +46,7 @@ returns-3 : tie.Need-returns-3
 returns-3 c =
     let at = c .before .before .before .before .before .before .before .before .before in
     let told = rw (c .before .before .before .before .before .marked2 .given .1) at (at .mark-sitting .ensures .answer) in
-    sat (number-filled (omega arith) (ap totalsTell told) (at .mark-sitting .ensures .report) (c .before .before .three .ensures))
+    marked (number-filled (omega arith) (ap totalsTell told) (at .mark-sitting .ensures .report) (c .before .before .three .ensures))
 
 pub mitongory-mark-sitting-spec : {M : Type 1} → statement M
 mitongory-mark-sitting-spec =

@@ -11,9 +11,11 @@ use mir.Val.{boolByte}
 use lib.Dec.{ltb}
 use lib.ListN.{length, getD, drop}
 use Rattle.marking.specs.Marks.{both}
-use Rattle.marking.proofs.Merging.{step-stays, step-counted, goes, stopped}
+use Rattle.marking.proofs.Merging.{step-stays, step-counted, Goes, goes, stopped}
 use Rattle.marking.proofs.merge.steps.Statement.{statement}
 use Rattle.marking.proofs.merge.steps.Tie as tie
+use Rattle.marking.proofs.merge.steps.Reads as reads
+use Rattle.marking.proofs.merge.steps.Lts as lts
 
 abbrev Inv-loop : tie.InvT-loop
 Inv-loop key i sheet j count x₀ y₀ step₀ x y step =
@@ -42,22 +44,22 @@ shared-slice-read-a c =
     let g = goes (l .step) (a .count) (l .x) (length (a .key .now)) (l .y) (length (a .sheet .now)) (c .before .loop-test .taken) in
     g .in-key
 
+-- what the loop's test says, once both positions are read
+going : (c : lts.After-shared-slice-known2 reads.Pre reads.Post Inv-loop μ-loop)
+    → Goes (c .before .before .before .loop .step) (c .before .before .before .before .args .count) (c .before .before .before .loop .x) (length (c .before .before .before .before .args .key .now)) (c .before .before .before .loop .y) (length (c .before .before .before .before .args .sheet .now))
+going c =
+    let a = c .before .before .before .before .args in
+    let l = c .before .before .before .loop in
+    goes (l .step) (a .count) (l .x) (length (a .key .now)) (l .y) (length (a .sheet .now)) (c .before .before .loop-test .taken)
+
 mul-b : tie.Need-mul-b Inv-loop μ-loop
 mul-b c = search needs
 
 shared-slice-read-b : tie.Need-shared-slice-read-b Inv-loop μ-loop
-shared-slice-read-b c =
-    let a = c .before .before .before .before .args in
-    let l = c .before .before .before .loop in
-    let g = goes (l .step) (a .count) (l .x) (length (a .key .now)) (l .y) (length (a .sheet .now)) (c .before .before .loop-test .taken) in
-    g .in-sheet
+shared-slice-read-b c = going c .in-sheet
 
 add-x : tie.Need-add-x Inv-loop μ-loop
-add-x c =
-    let a = c .before .before .before .before .args in
-    let l = c .before .before .before .loop in
-    let g = goes (l .step) (a .count) (l .x) (length (a .key .now)) (l .y) (length (a .sheet .now)) (c .before .before .loop-test .taken) in
-    omega arith
+add-x c = let g = going c in omega arith
 
 cast-x : tie.Need-cast-x Inv-loop μ-loop
 cast-x c = search needs
@@ -66,16 +68,11 @@ sub-x : tie.Need-sub-x Inv-loop μ-loop
 sub-x c =
     let a = c .before .before .before .before .args in
     let l = c .before .before .before .loop in
-    let g = goes (l .step) (a .count) (l .x) (length (a .key .now)) (l .y) (length (a .sheet .now)) (c .before .before .loop-test .taken) in
     let stays = step-stays (getD (a .key .now) (l .x) 0) (getD (a .sheet .now) (l .y) 0) in
     omega arith
 
 add-y : tie.Need-add-y Inv-loop μ-loop
-add-y c =
-    let a = c .before .before .before .before .args in
-    let l = c .before .before .before .loop in
-    let g = goes (l .step) (a .count) (l .x) (length (a .key .now)) (l .y) (length (a .sheet .now)) (c .before .before .loop-test .taken) in
-    omega arith
+add-y c = let g = going c in omega arith
 
 cast-y : tie.Need-cast-y Inv-loop μ-loop
 cast-y c = search needs
@@ -84,29 +81,20 @@ sub-y : tie.Need-sub-y Inv-loop μ-loop
 sub-y c =
     let a = c .before .before .before .before .args in
     let l = c .before .before .before .loop in
-    let g = goes (l .step) (a .count) (l .x) (length (a .key .now)) (l .y) (length (a .sheet .now)) (c .before .before .loop-test .taken) in
     let stays = step-stays (getD (a .key .now) (l .x) 0) (getD (a .sheet .now) (l .y) 0) in
     omega arith
 
 add-step : tie.Need-add-step Inv-loop μ-loop
-add-step c =
-    let a = c .before .before .before .before .args in
-    let l = c .before .before .before .loop in
-    let g = goes (l .step) (a .count) (l .x) (length (a .key .now)) (l .y) (length (a .sheet .now)) (c .before .before .loop-test .taken) in
-    omega arith
+add-step c = let g = going c in omega arith
 
 loop-less : tie.Need-loop-less Inv-loop μ-loop
-loop-less c =
-    let a = c .before .before .before .before .args in
-    let l = c .before .before .before .loop in
-    let g = goes (l .step) (a .count) (l .x) (length (a .key .now)) (l .y) (length (a .sheet .now)) (c .before .before .loop-test .taken) in
-    omega arith
+loop-less c = let g = going c in omega arith
 
 loop-again : tie.Need-loop-again Inv-loop μ-loop
 loop-again c =
     let a = c .before .before .before .before .args in
     let l = c .before .before .before .loop in
-    let g = goes (l .step) (a .count) (l .x) (length (a .key .now)) (l .y) (length (a .sheet .now)) (c .before .before .loop-test .taken) in
+    let g = going c in
     let p = getD (a .key .now) (l .x) 0 in
     let q = getD (a .sheet .now) (l .y) 0 in
     let stays = step-stays p q in
