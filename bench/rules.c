@@ -70,7 +70,6 @@ void rules_search(const uint8_t *t, size_t n, const uint8_t *w, size_t m, int me
     static size_t f[8192];
     while (mark < end && steps < budget) {
         size_t next = step(t, n, w, m, method, mark, f, &k);
-        steps++;
         for (size_t i = 0; i < k; i++) {
             if (hits == cells) {
                 *out = (struct answer){0, steps, hits, f[i], FULL};
@@ -78,6 +77,7 @@ void rules_search(const uint8_t *t, size_t n, const uint8_t *w, size_t m, int me
             }
             list[hits++] = (uint32_t)f[i];
         }
+        steps++;
         mark = next;
     }
     *out = (struct answer){0, steps, hits, mark, mark == end ? DONE : SPENT};

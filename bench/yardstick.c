@@ -108,7 +108,7 @@ static struct run plain(const uint8_t *t, size_t len, const struct pattern *w, c
     size_t hits = 0;
     for (size_t s = plain_next(t, len, c, from, limit); s < limit; s = plain_next(t, len, c, s + 1, limit))
         if (plain_rest(t, len, c, w->m, s)) {
-            if (hits == cells) return (struct run){s, s - from + 1, hits, 1};
+            if (hits == cells) return (struct run){s, s - from, hits, 1};
             list[hits++] = s;
         }
     return (struct run){limit, limit - from, hits, 0};
@@ -133,11 +133,11 @@ static struct run hash(const uint8_t *t, size_t len, const struct pattern *w, co
     size_t s = from, steps = 0, hits = 0, e8 = w->m - 8;
     while (s < end && steps < budget) {
         unsigned v = bits8(t, s + e8);
-        steps++;
         if (v == last && same(t, len, w, s)) {
             if (hits == cells) return (struct run){s, steps, hits, 1};
             list[hits++] = s;
         }
+        steps++;
         s += c[v];
     }
     return (struct run){s < end ? s : end, steps, hits, 0};
@@ -167,7 +167,6 @@ static struct run skip_go(const uint8_t *t, size_t len, const struct pattern *w,
     size_t s = from, steps = 0, stride = (w->m + 1) / 8 - 1;
     for (size_t b = (s + w->m) / 8 - 1; s < end && steps < budget; b += stride) {
         size_t j = c[t[b]];
-        steps++;
         if (j)
             for (size_t low = end <= 8 * b ? 8 * b + 1 - end : 0; j > low; j = c[255 + j]) {
                 size_t a = 8 * b + 1 - j;
@@ -176,6 +175,7 @@ static struct run skip_go(const uint8_t *t, size_t len, const struct pattern *w,
                     list[hits++] = a;
                 }
             }
+        steps++;
         s = 8 * b + 1;
     }
     return (struct run){s < end ? s : end, steps, hits, 0};
@@ -250,7 +250,6 @@ static struct run wide(const uint8_t *t, size_t len, size_t n, const struct patt
             next = s + move[bit(t, s + ws)];
             f = wide_scan(t, w->m, c, s);
         }
-        steps++;
         for (; f; f &= f - 1) {
             size_t a = s + __builtin_ctzll(f);
             if (a >= end) break;
@@ -259,6 +258,7 @@ static struct run wide(const uint8_t *t, size_t len, size_t n, const struct patt
                 list[hits++] = a;
             }
         }
+        steps++;
         s = next;
     }
     return (struct run){s < end ? s : end, steps, hits, 0};
@@ -280,7 +280,6 @@ static struct run tail(const uint8_t *t, size_t len, size_t m, const uint64_t *c
     while (s < end && steps < budget) {
         uint64_t x = bits64(t, len, s) >> (64 - m), d = c[x & 1];
         size_t r = 0, k = 1;
-        steps++;
         while (d) {
             if (d >> 63) {
                 if (k == m) {
@@ -293,6 +292,7 @@ static struct run tail(const uint8_t *t, size_t len, size_t m, const uint64_t *c
             x >>= 1, k++;
             d = d << 1 & c[x & 1];
         }
+        steps++;
         s += m - r;
     }
     return (struct run){s < end ? s : end, steps, hits, 0};

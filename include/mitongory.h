@@ -74,21 +74,21 @@ extern "C" {
 
 /* The version of this header. */
 #define MITONGORY_VERSION_MAJOR 0
-#define MITONGORY_VERSION_MINOR 3
-#define MITONGORY_VERSION_PATCH 1
+#define MITONGORY_VERSION_MINOR 4
+#define MITONGORY_VERSION_PATCH 0
 #define MITONGORY_VERSION_NUMBER \
     (MITONGORY_VERSION_MAJOR * 10000 + MITONGORY_VERSION_MINOR * 100 + MITONGORY_VERSION_PATCH)
-#define MITONGORY_VERSION "0.3.1"
+#define MITONGORY_VERSION "0.4.0"
 
 /*
  * The version of the library, as a number. The name holds the version of the interface, so that a program that was
  * compiled for one interface links with no other.
  */
-uint32_t mitongory_version_0_3(void);
+uint32_t mitongory_version_0_4(void);
 
 static inline uint32_t mitongory_version(void)
 {
-    return mitongory_version_0_3();
+    return mitongory_version_0_4();
 }
 
 #ifdef __GNUC__
@@ -96,7 +96,7 @@ static inline uint32_t mitongory_version(void)
  * Every program refers to the function, also one that never asks for the version. (A linker that is told to drop unused
  * data, by --gc-sections, drops this reference too.)
  */
-static uint32_t (*const mitongory_version_needed)(void) __attribute__((used)) = mitongory_version_0_3;
+static uint32_t (*const mitongory_version_needed)(void) __attribute__((used)) = mitongory_version_0_4;
 #endif
 
 /* The cells that a search needs in `scratch`, and in `answer`. */
@@ -174,7 +174,7 @@ enum mitongory_method {
 
 /* The answer cells of an accepted search. */
 enum mitongory_answer {
-    MITONGORY_STEPS = 0,       /* steps made, at most the budget */
+    MITONGORY_STEPS = 0,       /* steps made, at most the budget; a step that a full list cuts is not counted */
     MITONGORY_OCCURRENCES = 1, /* how many places were written to the front of the list */
     MITONGORY_MARK = 2,        /* the first place that is not yet decided: where the next call goes on */
     MITONGORY_STOP = 3         /* one of enum mitongory_stop */
@@ -199,6 +199,12 @@ enum mitongory_marks {
  * far as the budget of steps and the cells of the list go. A first call has the mark 0; a later one goes on from
  * answer[MITONGORY_MARK]. An occurrence is a place from which all m bits of the pattern stand in the text, before bit n.
  * Occurrences may overlap. No search makes more than 2^30 steps, so a budget of UINT32_MAX is never spent.
+ *
+ * Where an occurrence finds no free cell, the step that came to it is cut short and not counted, and the call stops with
+ * MITONGORY_FULL and the mark at that occurrence; the next call makes that step again and counts it. So the steps of all
+ * calls of a search from mark 0 are together at most the last mark. A call with an empty list and a step to make can stop
+ * with MITONGORY_FULL, no step made and the mark where it was: it does so where an occurrence is at the mark. Going on with
+ * an empty list would then never end. With a free cell and a budget of one step or more a call moves the mark or is done.
  *
  *   text, pattern   packed bits; there may be more bytes than the bit counts need, and what is in them never matters
  *   method          one of enum mitongory_method

@@ -18,7 +18,7 @@ pub const ANSWER_CELLS_MISSING: u32 = 101;
 // tests/library/boundary.rs tests them.
 mod raw {
     extern "C" {
-        pub(super) fn mitongory_version_0_3() -> u32;
+        pub(super) fn mitongory_version_0_4() -> u32;
         pub(super) fn mitongory_search(
             text: *const u8,
             text_len: usize,
@@ -91,13 +91,13 @@ mod raw {
 
 // Kept in every program, used or not, so that the linker refuses an archive of another version.
 #[used]
-static VERSION: unsafe extern "C" fn() -> u32 = raw::mitongory_version_0_3;
+static VERSION: unsafe extern "C" fn() -> u32 = raw::mitongory_version_0_4;
 
 /// The archive's version, as major * 10,000 + minor * 100 + patch.
 #[must_use]
 pub fn version() -> u32 {
     // SAFETY: the function takes nothing and returns a number.
-    unsafe { raw::mitongory_version_0_3() }
+    unsafe { raw::mitongory_version_0_4() }
 }
 
 /// A search call. Method 0 is plain, 1 hash, 2 skip, 3 wide, 4 tail; the answer's four cells are steps, occurrences,

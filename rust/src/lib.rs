@@ -63,7 +63,7 @@
 //! decided; a *budget* of steps; a *list* for the places; and a *scratch* for its tables. It allocates nothing. Its
 //! [`Answer`] has the steps made, how many places were written to the front of the list, the mark moved on, and how the
 //! call stopped: [done](Stop::Done), [full](Stop::Full) (no free cell for an occurrence) or [spent](Stop::Spent) (the
-//! budget). The next call goes on from the mark.
+//! budget). The next call goes on from the mark; after a full list it needs a free cell to get any further.
 //!
 //! ```
 //! use mitongory::{search, Bits, Mark, Method, Scratch, Stop};

@@ -48,7 +48,8 @@ impl Mark {
 pub enum Stop {
     /// Every place is decided.
     Done,
-    /// The occurrence at this place found no free cell in the list. The mark is at it.
+    /// The occurrence at this place found no free cell in the list. The mark is at it. The step that came to it is not
+    /// counted; the next call makes it again.
     Full(u32),
     /// The budget was spent before the last place was decided.
     Spent,
@@ -58,7 +59,7 @@ pub enum Stop {
 #[derive(Clone, Copy, Debug, PartialEq, Eq, Hash)]
 #[must_use = "it says how many cells of the list hold occurrences, and where to go on"]
 pub struct Answer {
-    /// The steps made, at most the budget.
+    /// The steps made, at most the budget. A step that a full list cuts is not counted.
     pub steps: u32,
     /// How many occurrences were written to the front of the list.
     pub occurrences: usize,
@@ -103,14 +104,20 @@ impl fmt::Debug for Scratch {
 /// Makes at most `budget` steps from the mark on and writes the occurrences, rising, to the front of the list. The
 /// other cells of the list stay as they were.
 ///
-/// The call stops early where an occurrence finds no free cell. It allocates nothing and keeps nothing: the mark in the
+/// The call stops early where an occurrence finds no free cell: with [`Stop::Full`], and the step that was cut is not
+/// counted. So a call with an empty list can stop with no step made and the mark where it was (an occurrence is at the
+/// mark), and going on with an empty list would never end. With a free cell and a budget of one step or more a call
+/// moves the mark or is done.
+///
+/// The call allocates nothing and keeps nothing: the mark in the
 /// answer is all that the next call needs. Each call makes the method's tables anew, which took two microseconds or
 /// less where it was measured, so budgets of ten thousand steps and more lose little by it.
 ///
 /// A call writes all occurrences from its mark on that lie before the mark that it leaves. It is proved of every list of
 /// such calls on one text and one pattern, of which the first begins at [`Mark::START`] and each goes on from the mark
 /// before it, refused calls included: the places that they wrote, joined, are all occurrences before the last mark,
-/// rising and each once, whatever the methods, budgets and lists are. This is the theorem `whole`
+/// rising and each once, whatever the methods, budgets and lists are; and the steps that they made are together at most
+/// the last mark. This is the theorem `whole`
 /// (`crates/capi/proofs/CallList.antt`).
 ///
 /// ```
@@ -121,12 +128,16 @@ impl fmt::Debug for Scratch {
 /// let (text, pattern) = (ones.text()?, three.pattern()?);
 /// let (mut list, mut scratch) = ([0; 2], Scratch::new());
 ///
-/// // The third occurrence finds no free cell.
+/// // The third occurrence finds no free cell. The step that comes to it is not counted.
 /// let answer = search(text, pattern, Method::Plain, Mark::START, u32::MAX, &mut list, &mut scratch)?;
 /// assert_eq!((list, answer.occurrences), ([0, 1], 2));
-/// assert_eq!((answer.steps, answer.mark, answer.stop), (3, Mark::at(2), Stop::Full(2)));
+/// assert_eq!((answer.steps, answer.mark, answer.stop), (2, Mark::at(2), Stop::Full(2)));
 ///
-/// // The next call begins with it.
+/// // With an empty list no call gets past it.
+/// let answer = search(text, pattern, Method::Plain, answer.mark, u32::MAX, &mut [], &mut scratch)?;
+/// assert_eq!((answer.steps, answer.mark, answer.stop), (0, Mark::at(2), Stop::Full(2)));
+///
+/// // One with a free cell begins with it.
 /// let answer = search(text, pattern, Method::Wide, answer.mark, u32::MAX, &mut list, &mut scratch)?;
 /// assert_eq!((list, answer.occurrences), ([2, 1], 1));
 /// assert_eq!((answer.steps, answer.mark, answer.stop), (1, Mark::at(3), Stop::Done));

@@ -25,12 +25,12 @@ use Rattle.search.proofs.Calls as theorem
 use Rattle.capi.specs.Told.{unknownMethod, answerCellsMissing, Tells}
 use Rattle.capi.specs.Scan.{Named, known, unknown, methodNamed, stopNumber, requestOf, searchVerdict, Searches}
 use Rattle.capi.specs.Inner.{outcomeTells}
-use Rattle.capi.specs.CallList.{callOf, Made, markAfter, placesIn, stepsIn, stopIn, AllMade, Seen, seenOf, seen, markBy, seenBy, machineSeen, lastMark, joined, allSteps, fullOf, fulls, later, lastStop, Whole}
+use Rattle.capi.specs.CallList.{callOf, Made, markAfter, placesIn, stepsIn, stopIn, AllMade, Seen, seenOf, seen, markBy, seenBy, machineSeen, lastMark, joined, allSteps, later, lastStop, Whole}
 use Rattle.capi.proofs.Calling.{searched-by}
 use Rattle.capi.proofs.Answers.{as-searched}
 
 -- a way to stop by its number
-abbrev stopNumbers : Option Ending → Option ℕ
+abbrev pub stopNumbers : Option Ending → Option ℕ
 stopNumbers none = none
 stopNumbers (some e) = some (stopNumber e)
 
@@ -46,23 +46,24 @@ not-zero ScratchTooShort = refl
 
 module _ (t : Packed) (w : Pattern) (s : ℕ) (c : Made) where
   -- a call that was refused before there was a search
-  record Skipped : Type 0 where
-    mark : markAfter s c ≡ s
-    places : placesIn c ≡ []
-    steps : stepsIn c ≡ 0
-    stop : stopIn c ≡ none
-    verdict-mark : markBy (searchVerdict (callOf t w s (c .asked))) s ≡ s
+  pub record Skipped : Type 0 where
+    pub mark : markAfter s c ≡ s
+    pub places : placesIn c ≡ []
+    pub steps : stepsIn c ≡ 0
+    pub stop : stopIn c ≡ none
+    pub verdict-mark : markBy (searchVerdict (callOf t w s (c .asked))) s ≡ s
 
   -- the call of the library that it is
-  record Taken : Type 0 where
-    call : library.Call
-    searched : Searched (library.requestOf t w s (call .asked)) (call .outcome) (call .list-after) (call .scratch-after)
-    mark : markAfter s c ≡ library.markOf s (call .outcome)
-    places : placesIn c ≡ library.placesOf (call .outcome) (call .list-after)
-    steps : stepsIn c ≡ library.stepsOf (call .outcome)
-    stop : stopIn c ≡ stopNumbers (library.stopOf (call .outcome))
-    budget : call .asked .budget ≡ c .asked .budget
-    verdict-mark : markBy (searchVerdict (callOf t w s (c .asked))) s ≡ library.markOf s (call .outcome)
+  pub record Taken : Type 0 where
+    pub call : library.Call
+    pub searched : Searched (library.requestOf t w s (call .asked)) (call .outcome) (call .list-after) (call .scratch-after)
+    pub mark : markAfter s c ≡ library.markOf s (call .outcome)
+    pub places : placesIn c ≡ library.placesOf (call .outcome) (call .list-after)
+    pub steps : stepsIn c ≡ library.stepsOf (call .outcome)
+    pub stop : stopIn c ≡ stopNumbers (library.stopOf (call .outcome))
+    pub budget : call .asked .budget ≡ c .asked .budget
+    pub list : call .asked .list ≡ c .asked .list
+    pub verdict-mark : markBy (searchVerdict (callOf t w s (c .asked))) s ≡ library.markOf s (call .outcome)
 
   skipped : (k : ℕ) → searchVerdict (callOf t w s (c .asked)) ≡ refused k → c .result ≡ k → eqb k 0 ≡ false → Skipped
   skipped k v r e =
@@ -91,6 +92,7 @@ module _ (t : Packed) (w : Pattern) (s : ℕ) (c : Made) where
           steps = rw (h .result-is, h .answer-is) refl;
           stop = rw (h .result-is, h .answer-is) refl;
           budget = refl;
+          list = refl;
           verdict-mark = rw (v ∙ p .verdict-is) (sym (p .answer .mark));
         }
     taken (Refused y) p h v =
@@ -102,10 +104,11 @@ module _ (t : Packed) (w : Pattern) (s : ℕ) (c : Made) where
           steps = rw (h .result-is, not-zero y) refl;
           stop = rw (h .result-is, not-zero y) refl;
           budget = refl;
+          list = refl;
           verdict-mark = rw (v ∙ p .verdict-is) refl;
         }
 
-  each : Searches (callOf t w s (c .asked)) (c .result) (c .list-after) (c .scratch-after) (c .answer-after) → Skipped ⊎ Taken
+  pub each : Searches (callOf t w s (c .asked)) (c .result) (c .list-after) (c .scratch-after) (c .answer-after) → Skipped ⊎ Taken
   unfolding searchVerdict
   each p = by (methodNamed (c .asked .method)) refl
     where
@@ -141,7 +144,6 @@ record Same (t : Packed) (w : Pattern) (s : ℕ) (cs : List Made) : Type 0 where
   mark : lastMark s cs ≡ library.lastMark s calls
   places : joined cs ≡ library.joined calls
   steps : allSteps cs ≡ library.allSteps calls
-  fulls-are : fulls cs ≡ library.fulls calls
   stop : lastStop cs ≡ stopNumbers (library.lastStop calls)
   each-is : (c : Made) → List·Memᴰ c cs → Kept calls c
 
@@ -153,19 +155,13 @@ later-numbers : (e l : Option Ending) → later (stopNumbers e) (stopNumbers l) 
 later-numbers e none = refl
 later-numbers e (some l) = refl
 
-full-numbers : (o : Option Ending) → fullOf (stopNumbers o) ≡ library.fullOf o
-full-numbers none = refl
-full-numbers (some done) = refl
-full-numbers (some spent) = refl
-full-numbers (some (full p)) = refl
-
 wider : (calls : List library.Call) (call : library.Call) (c : Made) → Kept calls c → Kept (call ∷ calls) c
 wider calls call c (inl k) = inl k
 wider calls call c (inr a) =
     inr (record { call = a .call; member = List·Memᴰ·tail (a .member); steps = a .steps; stop = a .stop; budget = a .budget })
 
 same : (t : Packed) (w : Pattern) (cs : List Made) (s : ℕ) → AllMade t w s cs → Same t w s cs
-unfolding lastMark joined allSteps fulls lastStop library.lastMark library.joined library.allSteps library.fulls library.lastStop
+unfolding lastMark joined allSteps lastStop library.lastMark library.joined library.allSteps library.lastStop
 same t w [] s m =
     record {
       calls = [];
@@ -173,7 +169,6 @@ same t w [] s m =
       mark = refl;
       places = refl;
       steps = refl;
-      fulls-are = refl;
       stop = refl;
       each-is = λ c i. absurd (List·Memᴰ·not-nil i);
     }
@@ -206,7 +201,6 @@ same t w (c ∷ cs) s m = go (same t w cs) (each t w s c (m .0))
           mark = rw (k .mark) (r .mark);
           places = rw (k .places) (r .places);
           steps = rw (k .steps) (omega (arith, r .steps));
-          fulls-are = rw (k .stop) (omega (arith, r .fulls-are));
           stop = rw (k .stop) (later-none (lastStop cs) ∙ r .stop);
           each-is = λ d i. pick d k (r .each-is d) (List·Memᴰ·cases-cons i);
         }
@@ -218,7 +212,6 @@ same t w (c ∷ cs) s m = go (same t w cs) (each t w s c (m .0))
           mark = rw (k .mark) (r .mark);
           places = rw (k .places, r .places) refl;
           steps = rw (k .steps, r .steps) refl;
-          fulls-are = rw (k .stop, r .fulls-are, full-numbers (library.stopOf (k .call .outcome))) refl;
           stop = rw (k .stop, r .stop) (later-numbers (library.stopOf (k .call .outcome)) (library.lastStop (r .calls)));
           each-is = λ d i. choose d k (r .calls) (r .each-is d) (List·Memᴰ·cases-cons i);
         }
@@ -292,7 +285,7 @@ whole t w calls m =
       finished = λ e h. rw (r .mark) (finished-by (library.lastStop (r .calls)) (all .finished) e (sym (r .stop) ∙ h));
       spent-all = λ c i h. spent-by t w (r .calls) all c h (r .each-is c i);
       within = λ c i. within-by t w (r .calls) all c (r .each-is c i);
-      bounded = rw (r .steps, r .mark, r .fulls-are) (all .bounded);
+      bounded = rw (r .steps, r .mark) (all .bounded);
     }
 
 -- The calls of the library that a list of calls from C is, of which the last accepted one stopped with 0: the same places, and done.

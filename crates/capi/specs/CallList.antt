@@ -115,8 +115,7 @@ machineSeen t w s (q ∷ qs) =
     let r = seenBy (callOf t w s q) (searchVerdict (callOf t w s q)) in
     r ∷ machineSeen t w (r .mark) qs
 
--- the mark left after all calls, the places that they wrote, their steps, how many stopped with 1, full, and how the last
--- accepted one stopped
+-- the mark left after all calls, the places that they wrote, their steps, and how the last accepted one stopped
 unfoldable pub lastMark : ℕ → List Made → ℕ
 lastMark s [] = s
 lastMark s (c ∷ cs) = lastMark (markAfter s c) cs
@@ -129,14 +128,6 @@ unfoldable pub allSteps : List Made → ℕ
 allSteps [] = 0
 allSteps (c ∷ cs) = stepsIn c + allSteps cs
 
-abbrev pub fullOf : Option ℕ → ℕ
-fullOf none = 0
-fullOf (some stop) = cond (eqb stop 1) 1 0
-
-unfoldable pub fulls : List Made → ℕ
-fulls [] = 0
-fulls (c ∷ cs) = fullOf (stopIn c) + fulls cs
-
 abbrev pub later : Option ℕ → Option ℕ → Option ℕ
 later e none = e
 later e (some l) = some l
@@ -148,7 +139,7 @@ lastStop (c ∷ cs) = later (stopIn c) (lastStop cs)
 -- Each call's result, answer cells, list and mark are those that the machine gives, or those of its refusal; the joined
 -- places are all occurrences before the last mark, rising, each once; the last accepted call stopped with 0,
 -- done, just if the pattern no longer fits from the last mark on; a call that stopped with 2, spent, made all the steps of its
--- budget, and no call made more; and the steps in all are at most the last mark and the calls that stopped with full.
+-- budget, and no call made more; and the steps in all are at most the last mark.
 pub record Whole (t : Packed) (w : Pattern) (calls : List Made) : Type 0 where
   pub seen-is : seen 0 calls ≡ machineSeen t w 0 (map (λ (c : Made). c .asked) calls)
   pub places-are : joined calls ≡ occurrences t w 0 (lastMark 0 calls)
@@ -157,4 +148,4 @@ pub record Whole (t : Packed) (w : Pattern) (calls : List Made) : Type 0 where
   pub finished : (e : ℕ) → lastStop calls ≡ some e → (e ≡ 0) ↔ (t .count < lastMark 0 calls + w .count)
   pub spent-all : (c : Made) → List·Memᴰ c calls → stopIn c ≡ some 2 → stepsIn c ≡ c .asked .budget
   pub within : (c : Made) → List·Memᴰ c calls → stepsIn c ≤ c .asked .budget
-  pub bounded : allSteps calls ≤ lastMark 0 calls + fulls calls
+  pub bounded : allSteps calls ≤ lastMark 0 calls

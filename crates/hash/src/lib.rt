@@ -159,7 +159,6 @@ pub fn advance(
     let mut hits = had;
     while at < end && steps < budget {
         let v = load::byte_inside(text, Place(at + back));
-        steps += 1;
         if v == last {
             if compare::same(text, pattern, m, h, Place(at)) {
                 if list.len() <= hits {
@@ -174,6 +173,7 @@ pub fn advance(
                 hits += 1;
             }
         }
+        steps += 1;
         at += cells[v] as u32;
     }
     Advance {

@@ -100,7 +100,7 @@ module _ (s w t : List ℕ) (g : Good s w t) (x : Method) where
       where
         go : (e : Ending) → r .ending ≡ e → r .ending ≡ done
         go done e = e
-        go spent e = absurd (omega (arith, l .spent-all e, rw e at (l .bounded), l .high, all-places))
+        go spent e = absurd (omega (arith, l .spent-all e, l .bounded, l .high, all-places))
         go (full p) e =
             let f = l .full-at p e in
             let few = occurrences-length (textIn t) (patternIn w) 0 (r .mark) in
@@ -121,7 +121,7 @@ module _ (s w t : List ℕ) (g : Good s w t) (x : Method) where
         record {
           line = line;
           ended = end;
-          few = omega (arith, rw end at (l .bounded), mark, all-places);
+          few = omega (arith, l .bounded, mark, all-places);
           all = all;
           rising = rw all (occurrences-rising (textIn t) (patternIn w) 0 (places (textIn t) (patternIn w)));
           exactly = λ p.

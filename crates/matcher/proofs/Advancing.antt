@@ -1,10 +1,10 @@
 -- Laws of steps made one after the other with their list: none, one, some that find nothing, and some more after them.
 -- Assumes nothing.
 use mathlib.Core.Path.{_≡_, refl, sym, ap, _∙_}
-use mathlib.Core.Bool.{Bool, true, false, true≢false}
+use mathlib.Core.Bool.{Bool, true, false, cond, true≢false}
 use mathlib.Core.List.{List, [], _++_}
 use Prim.Native.Nat.{ℕ, _+_, _-_, _≤_, _<_}
-use native.Mathlib.Nat.{sub-zero}
+use native.Mathlib.Nat.{add-zero, sub-zero}
 use native.Mathlib.Omega.{arith}
 use borrow.Author.Tests.{ltb-true, ltb-false}
 use lib.ListN.{length, getD, take}
@@ -19,6 +19,10 @@ use Rattle.matcher.specs.Progress.{Reaches, Writing, Stepped, Advanced}
 use Rattle.rules.proofs.Step.{next-le}
 use Rattle.matcher.proofs.Progress.{reaches-none, reaches-step, reaches-join, run-to-cut, whole}
 use Rattle.matcher.proofs.Writing.{writing-none, writing-append, writing-length}
+
+-- the steps counted after one step more: one that was cut is not
+abbrev pub counted : Bool → ℕ → ℕ
+counted no-cell steps = cond no-cell steps (steps + 1)
 
 module _ (x : Method) (t : Packed) (w : Pattern) where
   -- steps that find nothing
@@ -49,7 +53,7 @@ module _ (x : Method) (t : Packed) (w : Pattern) where
 
   -- a step that finds a place without a cell
   cut-here : (s budget cells at : ℕ) → s < places t w → 0 < budget → cells < length (finds x t w s) → at ≡ getD (finds x t w s) cells 0
-      → run x t w budget s cells ≡ record { steps = 1; written = take cells (finds x t w s); mark = at; ending = full at }
+      → run x t w budget s cells ≡ record { steps = 0; written = take cells (finds x t w s); mark = at; ending = full at }
   unfolding cut after
   cut-here s budget cells at l b few e =
       run-to-cut x t w s 0 s [] (reaches-none x t w s) budget cells (omega arith) b l (rw (sub-zero cells) few)
@@ -57,7 +61,7 @@ module _ (x : Method) (t : Packed) (w : Pattern) where
 
   -- one step
   pub advanced-one : (s budget : ℕ) (before : List ℕ) (had at hits : ℕ) (no-cell : Bool) (list : List ℕ) → had ≤ length before → s < places t w → 0 < budget
-      → Stepped x t w s before had at hits no-cell list → Advanced x t w s budget before had at 1 hits no-cell list
+      → Stepped x t w s before had at hits no-cell list → Advanced x t w s budget before had at (counted no-cell 0) hits no-cell list
   advanced-one s budget before had at hits false list h l b u =
       let one = whole-step s had hits at before list h u in
       record {
@@ -103,11 +107,16 @@ module _ (x : Method) (t : Packed) (w : Pattern) where
   module _ (s budget : ℕ) (before : List ℕ) (had at steps hits : ℕ) (list : List ℕ) (h : had ≤ length before) (a : Advanced x t w s budget before had at steps hits false list) where
     -- a step more
     pub advanced-step : (at' hits' : ℕ) (no-cell : Bool) (list' : List ℕ) → at < places t w → steps < budget → Stepped x t w at list hits at' hits' no-cell list'
-        → Advanced x t w s budget before had at' (steps + 1) hits' no-cell list'
+        → Advanced x t w s budget before had at' (counted no-cell steps) hits' no-cell list'
     advanced-step at' hits' no-cell list' l b u =
         let same : length list ≡ length before = writing-length before had (a .found) list hits (a .writing) in
-        advanced-join s budget before had at steps hits list at' 1 hits' no-cell list' h a
-        (advanced-one at (budget - steps) list hits at' hits' no-cell list' (omega (arith, a .writing .fits)) l (omega arith) u)
+        rw (counted-after no-cell) at
+        (advanced-join s budget before had at steps hits list at' (counted no-cell 0) hits' no-cell list' h a
+        (advanced-one at (budget - steps) list hits at' hits' no-cell list' (omega (arith, a .writing .fits)) l (omega arith) u))
+      where
+        counted-after : (no-cell : Bool) → steps + counted no-cell 0 ≡ counted no-cell steps
+        counted-after false = refl
+        counted-after true = add-zero steps
 
     -- steps more that find nothing
     pub advanced-more : (at' more : ℕ) → Reaches x t w at more [] at' → steps + more ≤ budget → at' ≤ places t w

@@ -14,7 +14,8 @@ pub struct Found {
     pub full: bool,
 }
 
-// What steps made one after the other leave: the same, and how many they are.
+// What steps made one after the other leave: the same, and how many they are. A step is counted when it is complete: one
+// that finds a place without a cell is not.
 pub struct Advance {
     pub at: Place,
     pub steps: u32,

@@ -61,4 +61,15 @@ papers =
       tail-run-3 = refl;
       sitting = refl;
       sitting-totals = refl;
+      one-cell-skip = refl;
+      next-call-plain = refl;
+      next-call-hash = refl;
+      next-call-skip = refl;
+      next-call-wide = refl;
+      last-call-tail = refl;
+      cut-not-tried = refl;
+      cut-tried = refl;
+      cut-not-spent = refl;
+      no-cell-plain = refl;
+      no-cell-hash = refl;
     }

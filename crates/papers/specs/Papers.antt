@@ -1,12 +1,12 @@
--- The starred rows of "Papers from the course", in document 01's order, and the rows of the tail method and of a sitting after them, as
--- one claim about the definitions. The texts R1 and R2 and the patterns V1 and V2 are those of rules/specs/Papers.antt.
+-- The starred rows of "Papers from the course", in document 01's order, and after them the rows of the changes (the tail method, a
+-- sitting, the cut step), as one claim about the definitions. The texts R1 and R2 and the patterns V1 and V2 are those of rules/specs/Papers.antt.
 use mathlib.Core.Path.{_≡_}
 use mathlib.Core.List.{[], _∷_}
 use mathlib.Core.Option.{some}
 use Rattle.rules.specs.declared.Method.the-variants.{Plain, Hash, Skip, Wide, Tail}
 use Rattle.rules.specs.Hash.{hashOf}
 use Rattle.rules.specs.Tail.{tailLength}
-use Rattle.rules.specs.Machine.{done, full}
+use Rattle.rules.specs.Machine.{done, spent, full, run}
 use Rattle.rules.specs.Papers.{R1, V1, R2, V2, empty, ones5, one, ones3, zeros200, tailText, tailPattern, allOccurrences, wholeRun, marks}
 use Rattle.positions.specs.Basics.{ok}
 use Rattle.positions.specs.Encode.{encode}
@@ -29,10 +29,10 @@ pub record Papers : Type 0 where
   -- "Skip, R2, V2: marks 0, 9, 13."
   pub skip-marks : marks Skip R2 V2 2 ≡ 0 ∷ 9 ∷ 13 ∷ []
   pub skip-run : wholeRun Skip R2 V2 1000 ≡ record { steps = 2; written = 0 ∷ 6 ∷ 12 ∷ []; mark = 13; ending = done }
-  -- "R2, V2, one cell: place 0 written, full at 6; steps plain 7, hash 2, wide 1."
-  pub one-cell-plain : wholeRun Plain R2 V2 1 ≡ record { steps = 7; written = 0 ∷ []; mark = 6; ending = full 6 }
-  pub one-cell-hash : wholeRun Hash R2 V2 1 ≡ record { steps = 2; written = 0 ∷ []; mark = 6; ending = full 6 }
-  pub one-cell-wide : wholeRun Wide R2 V2 1 ≡ record { steps = 1; written = 0 ∷ []; mark = 6; ending = full 6 }
+  -- "R2, V2, one cell: place 0 written, full at 6"; and document 02: "In 01's one-cell paper the steps become plain 6, hash 1, wide 0."
+  pub one-cell-plain : wholeRun Plain R2 V2 1 ≡ record { steps = 6; written = 0 ∷ []; mark = 6; ending = full 6 }
+  pub one-cell-hash : wholeRun Hash R2 V2 1 ≡ record { steps = 1; written = 0 ∷ []; mark = 6; ending = full 6 }
+  pub one-cell-wide : wholeRun Wide R2 V2 1 ≡ record { steps = 0; written = 0 ∷ []; mark = 6; ending = full 6 }
   -- "n = 0, word 1: done, no step. Word 111 in 11111: 0, 1, 2."
   pub empty-plain : wholeRun Plain empty one 1000 ≡ record { steps = 0; written = []; mark = 0; ending = done }
   pub empty-wide : wholeRun Wide empty one 1000 ≡ record { steps = 0; written = []; mark = 0; ending = done }
@@ -52,7 +52,7 @@ pub record Papers : Type 0 where
   pub tail-run-1 : wholeRun Tail R1 V1 1000 ≡ record { steps = 5; written = 11 ∷ []; mark = 27; ending = done }
   pub tail-marks-2 : marks Tail R2 V2 3 ≡ 0 ∷ 6 ∷ 12 ∷ 13 ∷ []
   pub tail-run-2 : wholeRun Tail R2 V2 1000 ≡ record { steps = 3; written = 0 ∷ 6 ∷ 12 ∷ []; mark = 13; ending = done }
-  pub one-cell-tail : wholeRun Tail R2 V2 1 ≡ record { steps = 2; written = 0 ∷ []; mark = 6; ending = full 6 }
+  pub one-cell-tail : wholeRun Tail R2 V2 1 ≡ record { steps = 1; written = 0 ∷ []; mark = 6; ending = full 6 }
   pub tail-marks-ones : marks Tail ones5 ones3 3 ≡ 0 ∷ 1 ∷ 2 ∷ 3 ∷ []
   pub tail-run-ones : wholeRun Tail ones5 ones3 1000 ≡ record { steps = 3; written = 0 ∷ 1 ∷ 2 ∷ []; mark = 3; ending = done }
   -- and a window that is no occurrence: its r is the length of a prefix that does not end the pattern itself (whose own r is 0)
@@ -69,3 +69,18 @@ pub record Papers : Type 0 where
       ∷ record { right = 0; missed = 3; false-positives = 0 }
       ∷ [])
   pub sitting-totals : totalsOf (allMarks (allOccurrences R2 V2) (0 ∷ 6 ∷ 12 ∷ 0 ∷ 7 ∷ 12 ∷ []) (3 ∷ 3 ∷ 0 ∷ [])) ≡ record { right = 5; missed = 4; false-positives = 1 }
+  -- The cut step: skip in one cell; the calls that go on from 6 and from 12, whose steps count as usual
+  pub one-cell-skip : wholeRun Skip R2 V2 1 ≡ record { steps = 0; written = 0 ∷ []; mark = 6; ending = full 6 }
+  pub next-call-plain : run Plain R2 V2 1000 6 1 ≡ record { steps = 6; written = 6 ∷ []; mark = 12; ending = full 12 }
+  pub next-call-hash : run Hash R2 V2 1000 6 1 ≡ record { steps = 1; written = 6 ∷ []; mark = 12; ending = full 12 }
+  pub next-call-skip : run Skip R2 V2 1000 6 2 ≡ record { steps = 1; written = 6 ∷ 12 ∷ []; mark = 13; ending = done }
+  pub next-call-wide : run Wide R2 V2 1000 6 2 ≡ record { steps = 1; written = 6 ∷ 12 ∷ []; mark = 13; ending = done }
+  pub last-call-tail : run Tail R2 V2 1000 12 1 ≡ record { steps = 1; written = 12 ∷ []; mark = 13; ending = done }
+  -- It is tried only while fewer steps than the budget are made, and it uses up none of them: with a budget of 6 plain does not come to
+  -- it, with 7 it does; and in wide a budget of 1 is not spent
+  pub cut-not-tried : run Plain R2 V2 6 0 1 ≡ record { steps = 6; written = 0 ∷ []; mark = 6; ending = spent }
+  pub cut-tried : run Plain R2 V2 7 0 1 ≡ record { steps = 6; written = 0 ∷ []; mark = 6; ending = full 6 }
+  pub cut-not-spent : run Wide R2 V2 1 0 1 ≡ record { steps = 0; written = 0 ∷ []; mark = 6; ending = full 6 }
+  -- and with no cell at all the call stops where it began
+  pub no-cell-plain : wholeRun Plain R2 V2 0 ≡ record { steps = 0; written = []; mark = 0; ending = full 0 }
+  pub no-cell-hash : wholeRun Hash R2 V2 0 ≡ record { steps = 0; written = []; mark = 0; ending = full 0 }

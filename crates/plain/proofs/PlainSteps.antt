@@ -1,9 +1,9 @@
 -- Steps of the plain method, from the comparison at a place: places that do not match are passed, one that does is written.
 -- Assumes nothing.
 use Prim.Native.Nat.{ℕ, zero, suc, _+_, _-_, _^_, _≤_, _<_}
-use mathlib.Core.Path.{_≡_, sym, _∙_}
+use mathlib.Core.Path.{_≡_, refl, sym, _∙_}
 use mathlib.Core.Logic.{_↔_}
-use mathlib.Core.Bool.{Bool, true, false}
+use mathlib.Core.Bool.{Bool, true, false, cond}
 use mathlib.Core.List.{List, [], _∷_}
 use native.Mathlib.Nat.{add-zero}
 use native.Mathlib.Numerals.{add-one}
@@ -21,7 +21,7 @@ use Rattle.plain.specs.RowCells.{cellFits}
 use Rattle.rules.proofs.Plain.{rows-match}
 use Rattle.plain.proofs.RowCells.{fits-matches}
 use Rattle.matcher.proofs.Progress.{reaches-none, reaches-quiet}
-use Rattle.matcher.proofs.Advancing.{advanced-step, advanced-more}
+use Rattle.matcher.proofs.Advancing.{counted, advanced-step, advanced-more}
 use Rattle.matcher.proofs.Writing.{stepped-none, stepped-one, stepped-no-cell}
 
 module _ (t : Packed) (w : Pattern) where
@@ -62,12 +62,15 @@ module _ (t : Packed) (w : Pattern) where
     -- and the step at the place after them
     pub step-at : (p : ℕ) → at ≤ p → p < places t w → p < from + budget → ((q : ℕ) → at ≤ q → q < p → matches t w q ≡ false)
         → (at' hits' : ℕ) (no-cell : Bool) (list' : List ℕ) → Stepped Plain t w p list hits at' hits' no-cell list'
-        → Advanced Plain t w from budget before had at' (p + 1 - from) hits' no-cell list'
+        → Advanced Plain t w from budget before had at' (cond no-cell (p - from) (p + 1 - from)) hits' no-cell list'
     step-at p g i b f at' hits' no-cell list' u =
-        let steps : p - from + 1 ≡ p + 1 - from = omega arith in
-        rw steps at
+        rw (passed-places no-cell) at
         (advanced-step Plain t w from budget before had p (p - from) hits list h (pass-to p g (omega arith) (omega arith) f)
         at' hits' no-cell list' i (omega arith) u)
+      where
+        passed-places : (no-cell : Bool) → counted no-cell (p - from) ≡ cond no-cell (p - from) (p + 1 - from)
+        passed-places false = omega arith
+        passed-places true = refl
 
   -- one step, from a test r of all cells of the row at s
   module _ (cells : List ℕ) (ready : Ready Plain t w cells) (small : (x : ℕ) → getD cells x 0 < 2 ^ 64) (s : ℕ) (inside : s < places t w)

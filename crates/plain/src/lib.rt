@@ -195,7 +195,7 @@ pub fn step(
 }
 
 // Many steps, one for each place: those before a candidate find nothing, and the candidate is written if the rest of its
-// row agrees too.
+// row agrees too. If it finds no cell, its step is not one of them.
 pub fn advance(
     text: &[u8],
     n: u32,
@@ -233,7 +233,7 @@ pub fn advance(
             if list.len() <= hits {
                 return Advance {
                     at: c,
-                    steps: at - s.0,
+                    steps: p - s.0,
                     hits: hits,
                     full: true,
                 };

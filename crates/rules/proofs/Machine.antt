@@ -3,7 +3,7 @@ use Prim.Native.Nat.{ℕ, zero, suc, _+_, _-_, _≤_, _<_}
 use mathlib.Core.Path.{_≡_, refl, sym, ap, ap₂, _∙_}
 use mathlib.Core.Logic.{_⊎_, inl, inr}
 use mathlib.Core.Bool.{Bool, true, false, cond}
-use mathlib.Core.List.{List, [], _++_, append-assoc}
+use mathlib.Core.List.{List, [], _∷_, _++_, append-assoc}
 use native.Mathlib.Nat.{zero-add, add-assoc}
 use native.Mathlib.Decide.{decLe}
 use native.Mathlib.Omega.{arith}
@@ -15,11 +15,11 @@ use Rattle.bits.specs.Packed.{Packed}
 use Rattle.rules.specs.declared.Method.{Method}
 use Rattle.rules.specs.Ranges.{among}
 use Rattle.rules.specs.Pattern.{Pattern}
-use Rattle.rules.specs.Occurrence.{places, occurs, occurrences}
+use Rattle.rules.specs.Occurrence.{places, Occurs, occurs, occurrences}
 use Rattle.rules.specs.Step.{unfit, finds, next}
 use Rattle.rules.specs.Machine.{Ending, done, spent, full, Run, stopped, cut, after, run, Left}
 use Rattle.rules.proofs.Ranges.{eq-or-below, among-cut}
-use Rattle.rules.proofs.Occurrence.{occurs-iff, occurrences-append, occurrences-none}
+use Rattle.rules.proofs.Occurrence.{occurs-iff, occurrences-append, occurrences-none, occurrences-one, occurrences-length}
 use Rattle.rules.proofs.Step.{next-le}
 use Rattle.rules.proofs.Methods.{sound}
 
@@ -63,10 +63,15 @@ module _ (x : Method) (t : Packed) (w : Pattern) (s cells : ℕ) where
   unfolding run
   run-cut b h l = rw (lt-ltb _ _ h, lt-leb _ _ l)
 
-  -- "the step is counted" that a full list cuts
-  pub cut-counted : (b : ℕ) → s < places t w → cells < length (finds x t w s) → run x t w (suc b) s cells .steps ≡ 1
+  -- "the cut step isn't counted"
+  pub cut-uncounted : (b : ℕ) → s < places t w → cells < length (finds x t w s) → run x t w (suc b) s cells .steps ≡ 0
   unfolding cut
-  cut-counted b h l = ap (λ (r : Run). r .steps) (run-cut b h l)
+  cut-uncounted b h l = ap (λ (r : Run). r .steps) (run-cut b h l)
+
+  -- "and the next call's step from that hit counts as usual": a step from any mark whose places have cells counts 1
+  pub step-counted : (b : ℕ) → s < places t w → length (finds x t w s) ≤ cells → 1 ≤ run x t w (suc b) s cells .steps
+  unfolding after
+  step-counted b h l = rw (run-step b h l) (omega arith)
 
 -- what each turn leaves
 
@@ -89,6 +94,7 @@ module _ (t : Packed) (w : Pattern) (s : ℕ) where
             within = omega arith;
             fits = omega arith;
             full-at = λ p q. absurd (done-not-full done p refl q);
+            full-tried = λ p q. absurd (done-not-full done p refl q);
             bounded = omega arith;
           }
       go false e =
@@ -102,6 +108,7 @@ module _ (t : Packed) (w : Pattern) (s : ℕ) where
             within = omega arith;
             fits = omega arith;
             full-at = λ p q. absurd (spent-not-full spent p refl q);
+            full-tried = λ p q. absurd (spent-not-full spent p refl q);
             bounded = omega arith;
           }
 
@@ -120,6 +127,7 @@ module _ (t : Packed) (w : Pattern) (s : ℕ) where
         within = omega (arith, rest .within);
         fits = omega (arith, rest .fits);
         full-at = λ p q. let f = rest .full-at p q in (f .0, f .1, omega (arith, f .2));
+        full-tried = λ p q. omega (arith, rest .full-tried p q);
         bounded = omega (arith, rest .bounded);
       }
 
@@ -141,6 +149,7 @@ module _ (t : Packed) (w : Pattern) (s : ℕ) where
         full-at = λ p q.
             let same : getD (among (occurs t w) s k) cells 0 ≡ p = cc in
             (same, rw same at (occurs-iff t w _ .0 (c .kept .passes)), size);
+        full-tried = λ p q. omega arith;
         bounded = omega (arith, c .kept .low);
       }
 
@@ -173,3 +182,30 @@ left x t w fit (suc b) s cells h =
         → Left t w s (suc b) cells (run x t w (suc b) s cells)
     go ih (inl e) = rw (run-ended x t w s cells (suc b) (omega arith)) (stopped-left t w s (suc b) cells h (λ l. absurd (omega arith)))
     go ih (inr inside) = step inside ih (decLe _ _)
+
+-- when the mark moves
+
+-- with a step and a cell to use it does
+pub moves : (t : Packed) (w : Pattern) (s b cells : ℕ) (r : Run) → Left t w s b cells r → s < places t w → 0 < b → 0 < cells → s < r .mark
+moves t w s b cells r l inside some-steps some-cells = go (r .ending) refl
+  where
+    go : (e : Ending) → r .ending ≡ e → s < r .mark
+    go done e = omega (arith, l .done-iff .0 e)
+    go spent e = omega (arith, l .spent-all e, l .bounded)
+    go (full p) e = omega (arith, l .full-at p e .2, ap length (l .written-are), occurrences-length t w s (r .mark))
+
+-- with no cell it stays at an occurrence, and no step is made
+pub stays : (x : Method) (t : Packed) (w : Pattern) (s b : ℕ) → unfit x (w .count) ≡ false → Occurs t w s → 0 < b
+    → run x t w b s 0 ≡ record { steps = 0; written = []; mark = s; ending = full s }
+unfolding cut
+stays x t w s zero fit o some-steps = absurd (omega arith)
+stays x t w s (suc b) fit o some-steps = cut-here
+  where
+    first : finds x t w s ≡ s ∷ occurrences t w (s + 1) (next x t w s)
+    first =
+        let r = sound x t w s fit (o .inside) in
+        let here : occurrences t w s (s + 1) ≡ s ∷ [] = rw (occurrences-one t w s, occurs-iff t w s .1 o) refl in
+        r .all ∙ occurrences-append t w s (s + 1) (next x t w s) (omega arith) (omega (arith, r .up)) ∙ rw here refl
+
+    cut-here : run x t w (suc b) s 0 ≡ record { steps = 0; written = []; mark = s; ending = full s }
+    cut-here = run-cut x t w s 0 b (o .inside) (rw first (omega arith)) ∙ rw first refl

@@ -1,5 +1,5 @@
 -- The machine of a search call: steps from a mark, until the places, the budget or the free cells end ("The call and the mark").
-use Prim.Native.Nat.{ℕ, zero, suc, _+_, _-_, _≤_}
+use Prim.Native.Nat.{ℕ, zero, suc, _+_, _-_, _≤_, _<_}
 use mathlib.Core.Path.{_≡_}
 use mathlib.Core.Logic.{_↔_}
 use mathlib.Core.Bool.{cond}
@@ -28,12 +28,13 @@ pub record Run : Type 0 where
 unfoldable pub stopped : ℕ → ℕ → Run
 stopped E s = record { steps = 0; written = []; mark = s; ending = cond (eqb s E) done spent }
 
--- "the step is counted" that a full list cuts
+-- how much a step counts that a full list cuts: "the cut step isn't counted, and the next call's step from that hit
+-- counts as usual" (document 02, which changes document 01's "the step is counted")
 abbrev pub cutSteps : ℕ
-cutSteps = 1
+cutSteps = 0
 
--- "If a hit finds no free cell, the mark becomes that hit, the step is counted, and the call stops with full": of the
--- places found, the first take the free cells, and the one after them is that occurrence
+-- "If a hit finds no free cell, the mark becomes that hit .. and the call stops with full": of the places found, the
+-- first take the free cells, and the one after them is that occurrence
 unfoldable pub cut : ℕ → List ℕ → Run
 cut cells found =
     record { steps = cutSteps; written = take cells found; mark = getD found cells 0; ending = full (getD found cells 0) }
@@ -52,15 +53,10 @@ run x t w (suc b) s cells =
     let step = cond (leb (length (finds x t w s)) cells) whole (cut cells (finds x t w s)) in
     cond (ltb s (places t w)) step (stopped (places t w) s)
 
--- 1 for an ending by a full list
-abbrev pub isFull : Ending → ℕ
-isFull done = 0
-isFull spent = 0
-isFull (full p) = 1
-
 -- What is proved of the machine, from any mark s with any budget and free cells: it wrote all occurrences from s to the
 -- mark left; it says done just if that mark is E; a spent run made the whole budget; a full one stopped at an occurrence,
--- with every cell written; and each step but one that was cut moved the mark.
+-- with every cell written and budget left ("while .. fewer steps than the budget are made" holds of the step that was cut
+-- too); and each step that is counted moved the mark.
 pub record Left (t : Packed) (w : Pattern) (s budget cells : ℕ) (r : Run) : Type 0 where
   pub written-are : r .written ≡ occurrences t w s (r .mark)
   pub low : s ≤ r .mark
@@ -70,4 +66,5 @@ pub record Left (t : Packed) (w : Pattern) (s budget cells : ℕ) (r : Run) : Ty
   pub within : r .steps ≤ budget
   pub fits : length (r .written) ≤ cells
   pub full-at : (p : ℕ) → r .ending ≡ full p → (r .mark ≡ p) × Occurs t w p × (length (r .written) ≡ cells)
-  pub bounded : r .steps + s ≤ r .mark + isFull (r .ending)
+  pub full-tried : (p : ℕ) → r .ending ≡ full p → r .steps < budget
+  pub bounded : r .steps + s ≤ r .mark

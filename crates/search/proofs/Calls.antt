@@ -16,13 +16,13 @@ use Rattle.rules.specs.Pattern.{Pattern}
 use Rattle.rules.specs.Occurrence.{places, occurrences}
 use Rattle.rules.specs.Machine.{Ending, done, spent, Left}
 use Rattle.search.specs.Verdict.{Request, rows, refused, accepted, machine, verdict, numberOfRefusal, endingOf, Searched}
-use Rattle.search.specs.Calls.{requestOf, Call, markOf, placesOf, stepsOf, stopOf, Made, Result, answerOf, resultOf, results, resultBy, machineResults, lastMark, joined, allSteps, fullOf, fulls, later, lastStop, Whole}
+use Rattle.search.specs.Calls.{requestOf, Call, markOf, placesOf, stepsOf, stopOf, Made, Result, answerOf, resultOf, results, resultBy, machineResults, lastMark, joined, allSteps, later, lastStop, Whole}
 use Rattle.rules.proofs.Occurrence.{occurrences-append, occurrences-none, occurrences-rising, occurrences-exactly}
 use Rattle.rules.proofs.Machine.{left}
 use Rattle.search.proofs.Verdict.{accepted-iff}
 
 -- an accepted call ran the machine, from a mark that is a place or E
-accepted-left : (q : Request) → verdict q ≡ accepted (machine q) → Left (q .text) (q .pattern) (q .mark) (q .budget) (length (q .list)) (machine q)
+pub accepted-left : (q : Request) → verdict q ≡ accepted (machine q) → Left (q .text) (q .pattern) (q .mark) (q .budget) (length (q .list)) (machine q)
 unfolding machine rows
 accepted-left q h =
     let fail = accepted-iff q .0 h in
@@ -39,7 +39,7 @@ record One (t : Packed) (w : Pattern) (s budget : ℕ) (o : Outcome) (list : Lis
   unmoved : stopOf o ≡ none → markOf s o ≡ s
   spent-all : stopOf o ≡ some spent → stepsOf o ≡ budget
   within : stepsOf o ≤ budget
-  bounded : stepsOf o + s ≤ markOf s o + fullOf (stopOf o)
+  bounded : stepsOf o + s ≤ markOf s o
 
 one : (q : Request) (o : Outcome) (list scratch : List ℕ) → q .mark ≤ places (q .text) (q .pattern) → Searched q o list scratch
     → One (q .text) (q .pattern) (q .mark) (q .budget) o list
@@ -56,7 +56,7 @@ one q (Accepted a) list scratch h c =
       unmoved = λ e. absurd (Option·some-ne-none _ e);
       spent-all = λ e. is .steps ∙ l .spent-all (sym (is .ending) ∙ Option·some-injective _ _ e);
       within = omega (arith, l .within, is .steps);
-      bounded = rw (is .steps, is .mark, is .ending) (l .bounded);
+      bounded = rw (is .steps, is .mark) (l .bounded);
     }
 one q (Refused r) list scratch h c =
     record {
@@ -79,7 +79,7 @@ record From (t : Packed) (w : Pattern) (s : ℕ) (calls : List Call) : Type 0 wh
   unmoved : lastStop calls ≡ none → lastMark s calls ≡ s
   spent-all : (c : Call) → List·Memᴰ c calls → stopOf (c .outcome) ≡ some spent → stepsOf (c .outcome) ≡ c .asked .budget
   within : (c : Call) → List·Memᴰ c calls → stepsOf (c .outcome) ≤ c .asked .budget
-  bounded : allSteps calls + s ≤ lastMark s calls + fulls calls
+  bounded : allSteps calls + s ≤ lastMark s calls
 
 -- a call in front of a list of calls
 module _ (t : Packed) (w : Pattern) (s : ℕ) (c : Call) (cs : List Call)
@@ -106,7 +106,7 @@ module _ (t : Packed) (w : Pattern) (s : ℕ) (c : Call) (cs : List Call)
       go (inr n) = f d n
 
   one-more : From t w s (c ∷ cs)
-  unfolding lastMark joined allSteps fulls lastStop
+  unfolding lastMark joined allSteps lastStop
   one-more =
       record {
         places-are =
@@ -122,7 +122,7 @@ module _ (t : Packed) (w : Pattern) (s : ℕ) (c : Call) (cs : List Call)
       }
 
 none-made : (t : Packed) (w : Pattern) (s : ℕ) → s ≤ places t w → From t w s []
-unfolding lastMark joined allSteps fulls lastStop
+unfolding lastMark joined allSteps lastStop
 none-made t w s h =
     record {
       places-are = sym (occurrences-none t w s s (λ p l u. absurd (omega arith)));

@@ -2,6 +2,7 @@
 pub mod Verdict
 pub mod Answers
 pub mod Calls
+pub mod Progress
 pub mod Padding
 pub mod Examples
 pub mod Ending

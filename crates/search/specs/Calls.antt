@@ -13,7 +13,7 @@ use Rattle.search.specs.declared.Outcome.the-variants.{Accepted, Refused
 use Rattle.rules.specs.Ranges.{Rising}
 use Rattle.rules.specs.Pattern.{Pattern}
 use Rattle.rules.specs.Occurrence.{Occurs, occurrences}
-use Rattle.rules.specs.Machine.{Ending, done, spent, Run, isFull}
+use Rattle.rules.specs.Machine.{Ending, done, spent, Run}
 use Rattle.search.specs.Verdict.{Request, Verdict, refused, accepted, verdict, numberOfRefusal, endingOf, Searched}
 
 -- What a call is asked beside text, pattern and mark. "Position list and scratch may come with any content and any length."
@@ -127,16 +127,6 @@ unfoldable pub allSteps : List Call → ℕ
 allSteps [] = 0
 allSteps (c ∷ cs) = stepsOf (c .outcome) + allSteps cs
 
--- 1 for a call that stopped with full
-abbrev pub fullOf : Option Ending → ℕ
-fullOf none = 0
-fullOf (some e) = isFull e
-
--- how many calls stopped with full
-unfoldable pub fulls : List Call → ℕ
-fulls [] = 0
-fulls (c ∷ cs) = fullOf (stopOf (c .outcome)) + fulls cs
-
 -- the later of two, where there is a later one
 abbrev pub later : Option Ending → Option Ending → Option Ending
 later e none = e
@@ -150,8 +140,8 @@ lastStop (c ∷ cs) = later (stopOf (c .outcome)) (lastStop cs)
 -- Demand 3, about the calls as a whole: each call's answer, position list and mark are those that the machine gives, or
 -- those of its refusal; the joined places are all occurrences before the last mark, rising, each once;
 -- the last accepted call said done just if the pattern no longer fits from the last mark on, "when that mark plus m is
--- above n"; a call that said spent made all the steps of its budget; and the steps in all are at most the last mark and
--- the calls that said full.
+-- above n"; a call that said spent made all the steps of its budget; and "the steps made are at most the last mark, with no
+-- term for full answers" (document 02).
 pub record Whole (t : Packed) (w : Pattern) (calls : List Call) : Type 0 where
   pub results-are : results 0 calls ≡ machineResults t w 0 (map (λ (c : Call). c .asked) calls)
   pub places-are : joined calls ≡ occurrences t w 0 (lastMark 0 calls)
@@ -160,4 +150,4 @@ pub record Whole (t : Packed) (w : Pattern) (calls : List Call) : Type 0 where
   pub finished : (e : Ending) → lastStop calls ≡ some e → (e ≡ done) ↔ (t .count < lastMark 0 calls + w .count)
   pub spent-all : (c : Call) → List·Memᴰ c calls → stopOf (c .outcome) ≡ some spent → stepsOf (c .outcome) ≡ c .asked .budget
   pub within : (c : Call) → List·Memᴰ c calls → stepsOf (c .outcome) ≤ c .asked .budget
-  pub bounded : allSteps calls ≤ lastMark 0 calls + fulls calls
+  pub bounded : allSteps calls ≤ lastMark 0 calls

@@ -2,6 +2,7 @@
 -- parts of the call promise each other.
 pub mod Verdict
 pub mod Calls
+pub mod Progress
 pub mod Examples
 pub mod Parts
 pub mod HashAnswers

@@ -20,7 +20,7 @@ pub struct Left {
 }
 
 // Steps from the mark until the places, the budget or the cells of the list are at an end: one from the mark, wherever it
-// is, and many after it. The tables are made.
+// is, and many after it. A step that a full list cuts is not counted. The tables are made.
 pub fn run(
     mark: Mark,
     method: Method,
@@ -47,7 +47,6 @@ pub fn run(
         let one = Mark { at: Place(at) }.step(method, text, n, pattern, m, h, cells, list, hits);
         let moved = one.mark;
         hits = one.hits;
-        steps += 1;
         if one.full {
             return Left {
                 mark: moved,
@@ -56,6 +55,7 @@ pub fn run(
                 full: true,
             };
         }
+        steps += 1;
         let more = methods::advance(
             method,
             text,

@@ -17,7 +17,7 @@ use Rattle.matcher.specs.Tables.{chained}
 use Rattle.matcher.specs.Progress.{Stepped, Writing, Advanced}
 use Rattle.rules.proofs.Ranges.{among-same}
 use Rattle.rules.proofs.Occurrence.{occurrences-append, occurrences-one}
-use Rattle.matcher.proofs.Advancing.{advanced-step}
+use Rattle.matcher.proofs.Advancing.{counted, advanced-step}
 use Rattle.matcher.proofs.Writing.{writing-more, writing-length, stepped-whole, stepped-full}
 use Rattle.rules.proofs.Skip.{reaches-byte, shown-occurs}
 use Rattle.skip.proofs.SkipChain.{chained-span}
@@ -85,7 +85,7 @@ module _ (t : Packed) (w : Pattern) where
 
     -- its chain is walked
     pub turn-step : (at' hits' : ℕ) (no-cell : Bool) (list' : List ℕ) → Stepped Skip t w (8 * b + 1 - chained (w .count)) list hits at' hits' no-cell list'
-        → Advanced Skip t w s budget before had at' (steps + 1) hits' no-cell list'
+        → Advanced Skip t w s budget before had at' (counted no-cell steps) hits' no-cell list'
     turn-step at' hits' no-cell list' u =
         advanced-step Skip t w s budget before had at steps hits list room (rw here at made) at' hits' no-cell list' inside few (rw turn-mark at u)
 

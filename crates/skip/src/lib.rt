@@ -251,7 +251,6 @@ pub fn advance(
     while at < end && steps < budget {
         let found = chain(text, n, pattern, m, h, cells, b, list, hits);
         hits = found.hits;
-        steps += 1;
         if found.full {
             let stop = found.at;
             return Advance {
@@ -261,6 +260,7 @@ pub fn advance(
                 full: true,
             };
         }
+        steps += 1;
         at = b.place_at(1).0;
         b = ByteNo(b.0 + stride);
     }

@@ -299,7 +299,6 @@ pub fn advance(
     let mut hits = had;
     while at < end && steps < budget {
         let x = window(text, m, Place(at));
-        steps += 1;
         if x == whole {
             if list.len() <= hits {
                 return Advance {
@@ -311,10 +310,12 @@ pub fn advance(
             }
             list[hits] = at;
             hits += 1;
+            steps += 1;
             at += period;
         } else {
             far = move_from(k, x, last, far);
             last = x;
+            steps += 1;
             at += far;
         }
     }

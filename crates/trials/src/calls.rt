@@ -43,25 +43,26 @@ fn next_call(c: Call, x: usize, left: usize) -> Call {
     call
 }
 
-// What the calls of a list come to: occurrences written, steps, calls that said full, the last mark, how the last accepted
-// call stopped, which is 3 where none was accepted, and whether each did what it is to do.
+// What the calls of a list come to: occurrences written, steps, the last mark, how the last accepted call stopped, which is
+// 3 where none was accepted, and whether each did what it is to do.
 struct Total {
     hits: usize,
     steps: usize,
-    fulls: usize,
     mark: usize,
     stop: usize,
     good: bool,
 }
 
-// A call more. None makes more steps than its budget, and one that said spent made them all.
+// A call more. None makes more steps than its budget, one that said spent made them all, and one that said full had some
+// left.
 fn added(t: Total, c: Call, run: Run) -> Total {
     let stop = if run.refusal == 0 { run.stop } else { t.stop };
-    let kept = (run.steps <= c.budget) & ((run.stop != 2) | (run.steps == c.budget));
+    let kept = (run.steps <= c.budget)
+        & ((run.stop != 2) | (run.steps == c.budget))
+        & ((run.stop != 1) | (run.steps < c.budget));
     Total {
         hits: plus(t.hits, run.hits),
         steps: plus(t.steps, run.steps),
-        fulls: plus(t.fulls, (run.stop == 1) as usize),
         mark: run.mark,
         stop: stop,
         good: t.good & run.good & kept,
@@ -70,7 +71,7 @@ fn added(t: Total, c: Call, run: Run) -> Total {
 
 // The claim about the whole list, whose first mark is 0: its cells hold every occurrence before the last mark, rising, and
 // as many were written; the last accepted call said done just if the pattern no longer fits from the last mark on; and the
-// steps are at most the last mark and the calls that said full.
+// steps are at most the last mark.
 fn claimed(first: Call, t: Total, s: &[u8], list: &[u32]) -> bool {
     let mut c = first;
     c.way = 0;
@@ -83,7 +84,7 @@ fn claimed(first: Call, t: Total, s: &[u8], list: &[u32]) -> bool {
         & (all.hits == t.hits)
         & (all.mark == t.mark)
         & ((t.stop == 3) | ((t.stop == 0) == over))
-        & (t.steps <= plus(t.mark, t.fulls))
+        & (t.steps <= t.mark)
 }
 
 // A call that is to be refused finds a scratch of known content in all cells; another one finds, in the first 4,224, what
@@ -102,7 +103,6 @@ pub(crate) fn joined(first: Call, x: usize, s: &[u8], list: &mut [u32]) -> bool 
     let mut t = Total {
         hits: 0,
         steps: 0,
-        fulls: 0,
         mark: 0,
         stop: 3,
         good: true,

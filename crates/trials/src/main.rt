@@ -76,7 +76,7 @@ const COUNTS: [usize; 20] = [
     2,
     40000,
     6,
-    80,
+    94,
 ];
 
 fn main() {

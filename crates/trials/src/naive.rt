@@ -161,11 +161,12 @@ fn begun(mut run: Run, c: Call, s: &[u8], at: usize) -> Run {
     run
 }
 
-// A place is decided. An occurrence is written, unless the list is full.
+// A place is decided. An occurrence is written, unless the list is full: the step that this cuts is not counted.
 fn decided(mut run: Run, c: Call, s: &[u8], list: &[u32], at: usize) -> Run {
     let hit = agree(s, plus(TEXT_BIT, at), 0, c.m);
     if hit & (run.hits == c.room) {
         run.stop = 1;
+        run.steps = minus(run.steps, 1);
     } else {
         run.good = run.good & (!hit | (get32(list, run.hits) == small(at)));
         run.hits = plus(run.hits, hit as usize);

@@ -67,7 +67,7 @@ fn pair(i: usize) -> Row {
 
 // Searches of a pair, by their digits: the pair, the method, the budget, which is 9 for all steps, and the cells; then the
 // steps, the occurrences written, the mark, and 0 for done, 1 for full, 2 for spent.
-const SEARCHES: [usize; 59] = [
+const SEARCHES: [usize; 73] = [
     // the papers with whole answers
     0_0_9_3_027_1_027_0,
     0_1_9_3_005_1_027_0,
@@ -106,12 +106,28 @@ const SEARCHES: [usize; 59] = [
     9_4_1_3_001_0_001_2,
     9_4_2_3_002_0_004_2,
     4_4_9_1_200_0_200_0,
-    // one cell
-    1_0_9_1_007_1_006_1,
-    1_1_9_1_002_1_006_1,
-    1_2_9_1_001_1_006_1,
-    1_3_9_1_001_1_006_1,
-    1_4_9_1_002_1_006_1,
+    // one cell: the step that the full list cuts is not counted
+    1_0_9_1_006_1_006_1,
+    1_1_9_1_001_1_006_1,
+    1_2_9_1_000_1_006_1,
+    1_3_9_1_000_1_006_1,
+    1_4_9_1_001_1_006_1,
+    // nor does it use up the budget: it is tried while a step is left, and not after that
+    1_0_6_1_006_1_006_2,
+    1_0_7_1_006_1_006_1,
+    1_1_1_1_001_1_006_2,
+    1_1_2_1_001_1_006_1,
+    1_2_1_1_000_1_006_1,
+    1_3_1_1_000_1_006_1,
+    1_4_1_1_001_1_006_2,
+    1_4_2_1_001_1_006_1,
+    // no cell: no step is made, and the mark stays
+    1_0_9_0_000_0_000_1,
+    1_1_9_0_000_0_000_1,
+    1_2_9_0_000_0_000_1,
+    1_3_9_0_000_0_000_1,
+    1_4_9_0_000_0_000_1,
+    1_3_0_0_000_0_000_2,
     // what students write: padding, a row 8, and a full list where no further occurrence exists (moving by m after a hash
     // hit, and giving the place's last bit, are ruled out by the papers above)
     5_0_9_2_001_0_001_0,
@@ -129,13 +145,13 @@ const SEARCHES: [usize; 59] = [
     1_2_9_3_002_3_013_0,
     1_3_9_3_001_3_013_0,
     1_4_9_3_003_3_013_0,
-    1_0_9_2_013_2_012_1,
-    1_1_9_2_003_2_012_1,
-    1_4_9_2_003_2_012_1,
+    1_0_9_2_012_2_012_1,
+    1_1_9_2_002_2_012_1,
+    1_4_9_2_002_2_012_1,
 ];
 
 fn of_search(i: usize) -> Row {
-    let d = SEARCHES[i % 59];
+    let d = SEARCHES[i % 73];
     let digit = d / 1000000000 % 10;
     let budget = if digit < 9 { digit } else { ALL };
     Row(
@@ -230,11 +246,11 @@ fn hash(i: usize, s: &mut [u8]) -> bool {
 
 // A case over a buffer of zeros.
 pub(crate) fn one(i: usize, x: usize, s: &mut [u8; 813], list: &mut [u32; 4400]) -> bool {
-    if i < 59 {
+    if i < 73 {
         return search(i, x, s, list);
     }
-    if i < 75 {
+    if i < 89 {
         return refusal(i, x, s, list);
     }
-    hash(i - 75, s)
+    hash(i - 89, s)
 }

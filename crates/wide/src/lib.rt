@@ -315,7 +315,7 @@ pub fn advance(
             list,
             found.hits,
         );
-        steps += 1;
+        steps += !found.full as u32;
     }
     let at = found.at;
     Advance {

@@ -85,7 +85,7 @@ fn lengths() {
         let mut list = vec![7; cells];
         let (said, answer) = search(&bytes, 64, &[0x80], 1, [3, 0, ALL], &mut list);
         let places = cells.min(64) as u64;
-        assert_eq!((said, answer), (0, [1, places, places, u64::from(cells < 64)]));
+        assert_eq!((said, answer), (0, [u64::from(cells >= 64), places, places, u64::from(cells < 64)]));
         assert!(list.iter().enumerate().all(|(i, &cell)| cell == if i < 64 { i as u32 } else { 7 }));
     }
     for cells in 0..=12 {
@@ -177,7 +177,7 @@ fn largest_text() {
         let (said, [_, places, mark, stop]) = search(&text, n, &ones, m, [method, 0, ALL], &mut list);
         assert_eq!((said, places, mark, stop, list), (0, 1, n - m + 1, 0, [(n - m) as u32, 7]));
         let from = (n - m) as u32;
-        assert_eq!(search(&text, n, &ones, m, [method, from, ALL], &mut []).1, [1, 0, n - m, 1]);
+        assert_eq!(search(&text, n, &ones, m, [method, from, ALL], &mut []).1, [0, 0, n - m, 1]);
         assert_eq!(search(&text, n, &ones, m, [method, from + 2, ALL], &mut []).0, 6);
     }
     assert_eq!(search(&text, n + 1, &ones, 64, [0, 0, ALL], &mut []).0, 1);

@@ -54,8 +54,9 @@ fn second_paper() {
     }
     assert_eq!(marks(R2, V2, Method::Skip), [0, 9, 13]);
     assert_eq!(marks(R2, V2, Method::Tail), [0, 6, 12, 13]);
-    for (method, steps) in [(Method::Plain, 7), (Method::Hash, 2), (Method::Wide, 1), (Method::Tail, 2)] {
+    for (&method, steps) in Method::ALL.iter().zip([6, 1, 0, 0, 1]) {
         assert_eq!(found(R2, V2, method, 1), Ok((steps, vec![0], 6, Stop::Full(6))));
+        assert_eq!(found(R2, V2, method, 0), Ok((0, vec![], 0, Stop::Full(0))));
     }
 }
 

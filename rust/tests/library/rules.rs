@@ -125,18 +125,18 @@ impl Pair {
         (found.into_iter().filter(|&a| self.occurs(a)).collect(), next.min(end))
     }
 
-    /// The call's loop.
+    /// The call's loop. A step that a full list cuts is not counted.
     pub fn run(&self, method: u32, mark: usize, budget: usize, cells: usize) -> Outcome {
         let (mut mark, mut steps, mut written) = (mark, 0, Vec::new());
         while mark < self.places() && steps < budget {
             let (found, next) = self.step(method, mark);
-            steps += 1;
             for a in found {
                 if written.len() == cells {
                     return Outcome { steps: steps as u64, written, mark: a as u64, stop: 1 };
                 }
                 written.push(a as u32);
             }
+            steps += 1;
             mark = next;
         }
         let stop = if mark == self.places() { 0 } else { 2 };

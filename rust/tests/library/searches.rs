@@ -211,7 +211,7 @@ fn joined_lists() {
         let x = drawn(&random, n, m);
         let text = Text::new(&x.text, n as u64).unwrap();
         let pattern = Pattern::new(&x.pattern, m as u64).unwrap();
-        let (mut mark, mut joined, mut steps, mut fulls) = (Mark::START, Vec::<u32>::new(), 0, 0);
+        let (mut mark, mut joined, mut steps) = (Mark::START, Vec::<u32>::new(), 0);
         loop {
             let method = random.one_of(Method::ALL);
             let budget = random.one_of(&[0, 1, 5, 40, u32::MAX]);
@@ -222,11 +222,15 @@ fn joined_lists() {
                 continue;
             };
             joined.extend(&list[..answer.occurrences]);
-            mark = answer.mark;
+            let from = std::mem::replace(&mut mark, answer.mark);
             steps += answer.steps;
-            fulls += u32::from(answer.stop == Stop::Full(mark.place()));
-            assert!(answer.stop != Stop::Spent || answer.steps == budget);
-            assert!(steps <= mark.place() + fulls);
+            match answer.stop {
+                Stop::Done => {}
+                Stop::Full(place) => assert!(place == mark.place() && answer.steps < budget),
+                Stop::Spent => assert_eq!(answer.steps, budget),
+            }
+            assert!(steps <= mark.place());
+            assert!(cells == 0 || budget == 0 || answer.stop == Stop::Done || from < mark);
             let before: Vec<u32> = x.pair.occurrences().into_iter().filter(|&s| s < mark.place()).collect();
             assert_eq!(joined, before);
             assert_eq!(answer.stop == Stop::Done, mark.place() as usize + m > n);

@@ -29,14 +29,28 @@ static void first_paper(uint32_t method, uint32_t steps)
     accepted("more bytes than needed", q, steps, 1, PAPER1_PLACES, MITONGORY_DONE, places);
 }
 
-/* Paper 2 with too few cells and with no budget, from marks at the end, and cut so that it has no place. */
-static void second_paper(uint32_t method, uint32_t steps_to_full)
+/*
+ * Paper 2 with too few cells, whose cut step is not counted and is made again by the next call; with no budget, from marks
+ * at the end, and with no place.
+ */
+static void second_paper(uint32_t method, uint32_t steps_to_full, uint32_t steps_from_there)
 {
     struct search q = paper2(method);
     q.list_len = 1;
     accepted("paper 2 with one cell", q, steps_to_full, 1, 6, MITONGORY_FULL, paper2_occurrences);
     q.list_len = 0;
-    accepted("paper 2 with no cell", q, 1, 0, 0, MITONGORY_FULL, NULL);
+    accepted("paper 2 with no cell", q, 0, 0, 0, MITONGORY_FULL, NULL);
+    q.list_len = 1;
+    q.budget = steps_to_full;
+    if (steps_to_full > 0)
+        accepted("no step left for the one that is cut", q, steps_to_full, 1, 6, MITONGORY_SPENT, paper2_occurrences);
+    q.budget = steps_to_full + 1;
+    accepted("a step left for the one that is cut", q, steps_to_full, 1, 6, MITONGORY_FULL, paper2_occurrences);
+    q.mark = 6;
+    q.list_len = 2;
+    q.budget = UINT32_MAX;
+    accepted("from the occurrence that found no cell", q, steps_from_there, 2, PAPER2_PLACES, MITONGORY_DONE,
+             paper2_occurrences + 1);
     q = paper2(method);
     q.budget = 0;
     accepted("no budget", q, 0, 0, 0, MITONGORY_SPENT, NULL);
@@ -94,7 +108,7 @@ static void beginning_of_the_pattern(void)
     q.mark = 4;
     accepted("its third step", q, 1, 1, 5, MITONGORY_DONE, places);
     q.list_len = 0;
-    accepted("its third step with no cell", q, 1, 0, 4, MITONGORY_FULL, NULL);
+    accepted("its third step with no cell", q, 0, 0, 4, MITONGORY_FULL, NULL);
 }
 
 static void refused_n(const char *name, struct search q, uint64_t n, uint32_t refusal)
@@ -242,14 +256,14 @@ static void order_of_refusals(void)
 
 void searches(void)
 {
-    static const uint32_t steps_to_full[] = {7, 2, 1, 1, 2};
+    static const uint32_t steps_to_full[] = {6, 1, 0, 0, 1}, steps_from_there[] = {7, 2, 1, 1, 2};
     uint32_t method;
     first_paper(MITONGORY_PLAIN, 27);
     first_paper(MITONGORY_HASH, 5);
     first_paper(MITONGORY_WIDE, 1);
     first_paper(MITONGORY_TAIL, 5);
     for (method = MITONGORY_PLAIN; method <= MITONGORY_TAIL; method++) {
-        second_paper(method, steps_to_full[method]);
+        second_paper(method, steps_to_full[method], steps_from_there[method]);
         refused_by_every_method(method);
     }
     ones(MITONGORY_PLAIN);

@@ -17,7 +17,7 @@ use Rattle.matcher.specs.Progress.{textOf, patternOf, Stepped, Advanced}
 use Rattle.matcher.proofs.Chunks.{chunk-differs}
 use Rattle.matcher.proofs.Compared.{compared}
 use Rattle.matcher.proofs.Writing.{writing-length}
-use Rattle.matcher.proofs.Advancing.{advanced-none, advanced-step}
+use Rattle.matcher.proofs.Advancing.{counted, advanced-none, advanced-step}
 use Rattle.hash.proofs.HashSteps.{long-enough, CellAt, cell-at, eight-of-pattern, eight-inside, stepped-hit, stepped-miss, stepped-cut}
 use Rattle.hash.proofs.advance.Statement.{statement}
 use Rattle.hash.proofs.advance.Tie as tie
@@ -54,7 +54,7 @@ more : (c : tie.Then1 Inv-loop μ-loop) (at hits : ℕ) (no-cell : Bool) (list :
     → let a = c .before .before .before .before .before .before .before .before .args in
     let l = c .before .before .loop in
     Stepped Hash (textOf (now (a .text)) (a .n)) (patternOf (now (a .pattern)) (a .m)) (l .at) (l .list) (l .hits) at hits no-cell list
-    → Advanced Hash (textOf (now (a .text)) (a .n)) (patternOf (now (a .pattern)) (a .m)) (a .s .0) (a .budget) (now (a .list)) (a .had) at (l .steps + 1) hits no-cell list
+    → Advanced Hash (textOf (now (a .text)) (a .n)) (patternOf (now (a .pattern)) (a .m)) (a .s .0) (a .budget) (now (a .list)) (a .had) at (counted no-cell (l .steps)) hits no-cell list
 more c at hits no-cell list u =
     let s = c .before .before .before .before .before .before .before .before in
     let a = s .args in
@@ -123,9 +123,6 @@ byte-inside-requires-2 c κs =
     let a = s .args in
     eight-inside (textOf (now (a .text)) (a .n)) (patternOf (now (a .pattern)) (a .m)) (now (a .cells)) (s .pre .0) (c .before .before .loop .at) (omega arith)
 
-add-steps : tie.Need-add-steps Inv-loop μ-loop
-add-steps c = omega (arith, ltb-true)
-
 same-requires : tie.Need-same-requires Inv-loop μ-loop
 same-requires c κs =
     let s = c .before .before .before .before .before .before .before .before .before .before in
@@ -153,6 +150,9 @@ slice-write-list c = search needs
 
 add-hits : tie.Need-add-hits Inv-loop μ-loop
 add-hits c = search needs
+
+add-steps : tie.Need-add-steps Inv-loop μ-loop
+add-steps c = omega (arith, ltb-true)
 
 mul-at : tie.Need-mul-at Inv-loop μ-loop
 mul-at c = omega (arith, cell (c .before) .small)
@@ -198,13 +198,13 @@ advance-spec =
     loop-holds
     add-at
     byte-inside-requires-2
-    add-steps
     same-requires
     same-length
     returns
     mul-list
     slice-write-list
     add-hits
+    add-steps
     mul-at
     shared-slice-read-at
     cast-at

@@ -3,7 +3,7 @@
 use borrow.Author.Needs.{needs}
 use mathlib.Core.Path.{_≡_}
 use mathlib.Core.Logic.{_↔_}
-use mathlib.Core.Bool.{Bool, true, false}
+use mathlib.Core.Bool.{Bool, true, false, cond}
 use mathlib.Core.List.{List}
 use Prim.Native.Nat.{ℕ, _+_, _-_, _*_, _≤_, _<_}
 use native.Mathlib.Omega.{arith}
@@ -74,7 +74,7 @@ more : (c : tie.Else1 Inv-loop μ-loop) (at hits : ℕ) (no-cell : Bool) (list :
     let l = c .before .before .before .loop in
     let p = c .before .candidate .result .0 in
     Stepped Plain (textOf (now (a .text)) (a .n)) (patternOf (now (a .pattern)) (a .m)) p (l .list) (l .hits) at hits no-cell list
-    → Advanced Plain (textOf (now (a .text)) (a .n)) (patternOf (now (a .pattern)) (a .m)) (a .s .0) (a .budget) (now (a .list)) (a .had) at (p + 1 - a .s .0) hits no-cell list
+    → Advanced Plain (textOf (now (a .text)) (a .n)) (patternOf (now (a .pattern)) (a .m)) (a .s .0) (a .budget) (now (a .list)) (a .had) at (cond no-cell (p - a .s .0) (p + 1 - a .s .0)) hits no-cell list
 more c at hits no-cell list u =
     let s = c .before .before .before .before .before .before .before .before .before in
     let a = s .args in

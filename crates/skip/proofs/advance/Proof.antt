@@ -14,7 +14,7 @@ use Rattle.rules.specs.declared.Method.the-variants.{Skip}
 use Rattle.rules.specs.Occurrence.{places}
 use Rattle.matcher.specs.Progress.{textOf, patternOf, Advanced}
 use Rattle.matcher.proofs.Writing.{writing-length}
-use Rattle.matcher.proofs.Advancing.{advanced-none}
+use Rattle.matcher.proofs.Advancing.{counted, advanced-none}
 use Rattle.skip.proofs.SkipChain.{byte-from, byte-inside, next-byte, next-fits}
 use Rattle.skip.proofs.SkipSizes.{Sizes, sizes, byte-asked, end-fits, long-enough}
 use Rattle.skip.proofs.SkipStep.{below-end, turn-step, turn-whole}
@@ -95,14 +95,11 @@ chain-requires c κs =
     let size = writing-length _ _ _ _ _ room in
     (s .pre .0, (s .pre .1 .0, (byte-from (l .at) (s .args .n) (s .args .m) (l .b .0) long (l .inv .1) (l .inv .0), byte-inside (l .at) (s .args .n) (s .args .m) (l .b .0) long (l .inv .1) (due k), omega (arith, size, room .fits))))
 
-add-steps : tie.Need-add-steps Inv-loop μ-loop
-add-steps c = omega (arith, left (c .before .before .before .before), c .before .before .before .before .before .before .before .before .before .before .before .before .before .before .before .before .fits .budget)
-
 -- the steps with the one that this turn makes
 turned : (c : tie.After-chain Inv-loop μ-loop)
     → let a = c .before .before .before .before .before .before .before .before .before .before .before .before .before .before .args in
     let r = c .chain .result in
-    Advanced Skip (textOf (now (a .text)) (a .n)) (patternOf (now (a .pattern)) (a .m)) (a .s .0) (a .budget) (now (a .list)) (a .had) (r .at .0) (c .before .before .before .before .loop .steps + 1) (r .hits) (r .full) (c .chain .last .1 .1 .1 .1 .1 .1 .1 .0)
+    Advanced Skip (textOf (now (a .text)) (a .n)) (patternOf (now (a .pattern)) (a .m)) (a .s .0) (a .budget) (now (a .list)) (a .had) (r .at .0) (counted (r .full) (c .before .before .before .before .loop .steps)) (r .hits) (r .full) (c .chain .last .1 .1 .1 .1 .1 .1 .1 .0)
 turned c =
     let k = c .before .before .before in
     let l = k .before .loop in
@@ -116,6 +113,9 @@ same-length c = writing-length _ _ _ _ _ (turned (c .before .before .before .bef
 
 returns-2 : tie.Need-returns-2 Inv-loop μ-loop
 returns-2 c = rw (c .before .if3 .taken) at (turned (c .before .before .before .before))
+
+add-steps : tie.Need-add-steps Inv-loop μ-loop
+add-steps c = omega (arith, left (c .before .before .before .before .before), c .before .before .before .before .before .before .before .before .before .before .before .before .before .before .before .before .before .fits .budget)
 
 place-at-requires : tie.Need-place-at-requires Inv-loop μ-loop
 place-at-requires c κs = (fitting (c .before .before .before .before .before .before) .small, lit< tt)
@@ -178,9 +178,9 @@ advance-spec =
     last-byte-requires
     loop-holds
     chain-requires
-    add-steps
     same-length
     returns-2
+    add-steps
     place-at-requires
     add-t29
     loop-less

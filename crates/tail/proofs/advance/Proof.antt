@@ -16,7 +16,7 @@ use Rattle.rules.specs.Occurrence.{places}
 use Rattle.rules.specs.Step.{next}
 use Rattle.matcher.specs.Progress.{textOf, patternOf, Stepped, Advanced}
 use Rattle.matcher.proofs.Writing.{writing-length, alone-cut, alone-hit, alone-miss}
-use Rattle.matcher.proofs.Advancing.{advanced-none, advanced-step}
+use Rattle.matcher.proofs.Advancing.{counted, advanced-none, advanced-step}
 use Rattle.tail.specs.Lengths.{Moves}
 use Rattle.tail.proofs.TailSteps.{short-enough, stays, next-by, whole-is, window-hit, window-miss, finds-alone}
 use Rattle.tail.proofs.advance.Statement.{statement}
@@ -57,7 +57,7 @@ more : (c : tie.Then2 Inv-loop μ-loop) (at hits : ℕ) (no-cell : Bool) (list :
     → let a = c .before .before .before .before .before .before .before .before .before .before .before .before .before .args in
     let l = c .before .before .loop in
     Stepped Tail (textOf (now (a .text)) (a .n)) (patternOf (now (a .pattern)) (a .m)) (l .at) (l .list) (l .hits) at hits no-cell list
-    → Advanced Tail (textOf (now (a .text)) (a .n)) (patternOf (now (a .pattern)) (a .m)) (a .s .0) (a .budget) (now (a .list)) (a .had) at (l .steps + 1) hits no-cell list
+    → Advanced Tail (textOf (now (a .text)) (a .n)) (patternOf (now (a .pattern)) (a .m)) (a .s .0) (a .budget) (now (a .list)) (a .had) at (counted no-cell (l .steps)) hits no-cell list
 more c at hits no-cell list u =
     let s = c .before .before .before .before .before .before .before .before .before .before .before .before .before in
     let a = s .args in
@@ -130,9 +130,6 @@ window-requires c κs =
     let p = c .before .before .before .before .before .before .before .before .before .before .before .before .before .pre .0 .pattern in
     (p .some-bits, short-enough _ p)
 
-add-steps : tie.Need-add-steps Inv-loop μ-loop
-add-steps c = omega (arith, ltb-true)
-
 same-length : tie.Need-same-length Inv-loop μ-loop
 same-length c = size (c .before .before .before .before .before)
 
@@ -154,6 +151,9 @@ slice-write-list c = search needs
 
 add-hits : tie.Need-add-hits Inv-loop μ-loop
 add-hits c = omega (arith, size (c .before .before .before .before .before), c .before .before .before .before .before .before .before .before .before .before .before .before .before .before .before .before .good)
+
+add-steps : tie.Need-add-steps Inv-loop μ-loop
+add-steps c = omega (arith, ltb-true)
 
 add-at : tie.Need-add-at Inv-loop μ-loop
 add-at c = omega (arith, c .before .before .before .before .before .before .before .before .before .before .before .before .before .before .before .before .pre .0 .few-bits)
@@ -180,6 +180,9 @@ move-from-requires c κs =
     let k = c .before .before .before .before .before .before .before .masks-of .ensures in
     let short = short-enough _ p in
     (omega (arith, k .0, p .some-bits), omega (arith, k .0), k .3, c .before .before .before .before .loop .inv .2)
+
+add-steps-2 : tie.Need-add-steps-2 Inv-loop μ-loop
+add-steps-2 c = omega (arith, ltb-true)
 
 add-at-2 : tie.Need-add-at-2 Inv-loop μ-loop
 add-at-2 c = omega (arith, c .move-from .ensures .is, c .before .before .before .before .before .before .before .before .masks-of .ensures .0, c .before .before .before .before .before .before .before .before .before .before .before .before .before .before .before .before .pre .0 .few-bits)
@@ -233,16 +236,17 @@ advance-spec =
     sub-period
     loop-holds
     window-requires
-    add-steps
     same-length
     returns-2
     mul-list
     slice-write-list
     add-hits
+    add-steps
     add-at
     loop-less
     loop-again
     move-from-requires
+    add-steps-2
     add-at-2
     loop-less-2
     loop-again-2

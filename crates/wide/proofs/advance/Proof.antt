@@ -1,18 +1,21 @@
 -- `wide::advance` meets its contract. The loop's invariant: the steps made, with their list.
 -- Assumes nothing.
-use mathlib.Core.Path.{_≡_, refl}
+use mathlib.Core.Path.{_≡_, refl, sym}
 use mathlib.Core.Bool.{Bool, true, false, not, _&&_}
-use Prim.Native.Nat.{ℕ, _+_, _-_, _<_}
+use Prim.Native.Nat.{ℕ, _+_, _-_, _≤_, _<_}
+use native.Mathlib.Nat.{add-zero}
 use native.Mathlib.Omega.{arith}
+use borrow.Author.Needs.{needs}
 use borrow.Author.Tests.{ltb-true, not-true}
 use denote.Ref.{now}
+use mir.Val.{boolByte}
 use lib.Dec.{ltb}
 use lib.ListN.{length}
 use Rattle.rules.specs.declared.Method.the-variants.{Wide}
 use Rattle.rules.proofs.Ranges.{and-left, and-right}
 use Rattle.matcher.specs.Progress.{textOf, patternOf, Advanced}
 use Rattle.matcher.proofs.Writing.{writing-length}
-use Rattle.matcher.proofs.Advancing.{advanced-none, advanced-step}
+use Rattle.matcher.proofs.Advancing.{counted, advanced-none, advanced-step}
 use Rattle.wide.proofs.WideFlags.{flagged-of}
 use Rattle.wide.proofs.advance.Statement.{statement}
 use Rattle.wide.proofs.advance.Tie as tie
@@ -22,7 +25,23 @@ Inv-loop text n pattern m h cells budget list₀ had end zero one steps₀ found
     Advanced Wide (textOf text n) (patternOf pattern m) (found₀ .at .0) budget list₀ had (found .at .0) steps (found .hits) (found .full) list
 
 abbrev μ-loop : tie.MeasureT-loop
-μ-loop text n pattern m h cells budget list₀ had end zero one steps₀ found₀ list steps found = budget - steps
+μ-loop text n pattern m h cells budget list₀ had end zero one steps₀ found₀ list steps found = budget - steps + boolByte (not (found .full))
+
+-- a turn that is not cut counts a step, and each turn brings the end nearer
+module _ (full : Bool) (steps budget : ℕ) where
+  as-counted : counted full steps ≡ steps + boolByte (not full)
+  as-counted = go full
+    where
+      go : (full : Bool) → counted full steps ≡ steps + boolByte (not full)
+      go true = sym (add-zero steps)
+      go false = refl
+
+  nearer : steps < budget → (steps + boolByte (not full) ≤ budget) × (budget - (steps + boolByte (not full)) + boolByte (not full) < budget - steps + 1)
+  nearer h = go full
+    where
+      go : (full : Bool) → (steps + boolByte (not full) ≤ budget) × (budget - (steps + boolByte (not full)) + boolByte (not full) < budget - steps + 1)
+      go true = omega arith
+      go false = omega arith
 
 -- the loop's test
 goes : (full : Bool) (at end steps budget : ℕ) → ((ltb at end && ltb steps budget) && not full) ≡ true → (full ≡ false) × (at < end) × (steps < budget)
@@ -89,21 +108,27 @@ settle-requires c κs =
       (s .pre .1 .0, (flagged-of (textOf (now (a .text)) (a .n)) w (now (a .cells)) (l .found .at .0) (c .before .scan .result) (c .before .scan .ok) (ready .tables) (c .before .scan .ensures), c .before .before .next-mark .ensures .mark w refl zero one)),
     )
 
+cast-steps : tie.Need-cast-steps Inv-loop μ-loop
+cast-steps c = search needs
+
 add-steps : tie.Need-add-steps Inv-loop μ-loop
-add-steps c = omega (arith, tested (c .before .before .before .before .before .before), c .before .before .before .before .before .before .before .before .before .before .before .before .before .before .before .before .fits .budget)
+add-steps c = omega (arith, nearer (c .before .before .before .settle .result .full) _ _ (tested (c .before .before .before .before .before .before .before) .2) .0, c .before .before .before .before .before .before .before .before .before .before .before .before .before .before .before .before .before .fits .budget)
 
 loop-less : tie.Need-loop-less Inv-loop μ-loop
-loop-less c = omega (arith, tested (c .before .before .before .before .before .before))
+loop-less c =
+    let test = tested (c .before .before .before .before .before .before .before) in
+    rw (test .0) (nearer (c .before .before .before .settle .result .full) _ _ (test .2) .1)
 
 loop-again : tie.Need-loop-again Inv-loop μ-loop
 loop-again c =
-    let s = c .before .before .before .before .before .before .before .before .before .before .before .before .before .before .before .before in
+    let s = c .before .before .before .before .before .before .before .before .before .before .before .before .before .before .before .before .before in
     let a = s .args in
-    let l = c .before .before .before .before .before .before .before .before .before .loop in
-    let test = tested (c .before .before .before .before .before .before) in
-    let settled = c .before .before .settle in
-    advanced-step Wide (textOf (now (a .text)) (a .n)) (patternOf (now (a .pattern)) (a .m)) (a .s .0) (a .budget) (now (a .list)) (a .had) (l .found .at .0) (l .steps) (l .found .hits) (l .list) (s .pre .1 .1 .1)
-    (rw (test .0) at (l .inv)) (settled .result .at .0) (settled .result .hits) (settled .result .full) (settled .last .1 .1 .1 .1 .1 .1 .1 .1 .0) (omega (arith, s .pre .0 .inside)) (test .2) (settled .ensures)
+    let l = c .before .before .before .before .before .before .before .before .before .before .loop in
+    let test = tested (c .before .before .before .before .before .before .before) in
+    let settled = c .before .before .before .settle in
+    rw (as-counted (settled .result .full) (l .steps) (a .budget)) at
+    (advanced-step Wide (textOf (now (a .text)) (a .n)) (patternOf (now (a .pattern)) (a .m)) (a .s .0) (a .budget) (now (a .list)) (a .had) (l .found .at .0) (l .steps) (l .found .hits) (l .list) (s .pre .1 .1 .1)
+    (rw (test .0) at (l .inv)) (settled .result .at .0) (settled .result .hits) (settled .result .full) (settled .last .1 .1 .1 .1 .1 .1 .1 .1 .0) (omega (arith, s .pre .0 .inside)) (test .2) (settled .ensures))
 
 same-length : tie.Need-same-length Inv-loop μ-loop
 same-length c = long (c .before .before .before .before)
@@ -125,6 +150,7 @@ advance-spec =
     next-mark-requires
     scan-requires
     settle-requires
+    cast-steps
     add-steps
     loop-less
     loop-again

@@ -9,7 +9,7 @@ use borrow.Author.Tests.{ltb-true, ltb-false}
 use denote.Ref.{now}
 use Rattle.matcher.specs.Progress.{textOf, patternOf, Advanced}
 use Rattle.matcher.proofs.Writing.{writing-length}
-use Rattle.matcher.proofs.Advancing.{advanced-none, advanced-step, advanced-join}
+use Rattle.matcher.proofs.Advancing.{counted, advanced-none, advanced-step, advanced-join}
 use Rattle.search.proofs.Ending.{ran-to-end, ran-to-cut}
 use Rattle.search.proofs.call.run.Statement.{statement}
 use Rattle.search.proofs.call.run.Tie as tie
@@ -25,7 +25,7 @@ abbrev μ-loop : tie.MeasureT-loop
 one : (c : tie.After-moved Inv-loop μ-loop)
     → let a = c .before .before .before .before .before .before .before .before .before .before .before .before .before .args in
     let r = c .before .before .before .step .result in
-    Advanced (a .method) (textOf (now (a .text)) (a .n)) (patternOf (now (a .pattern)) (a .m)) (a .mark .at .0) (a .budget) (now (a .list)) 0 (r .mark .at .0) (c .before .before .before .before .before .before .before .loop .steps + 1) (r .hits) (r .full) (c .before .before .before .step .last .1 .1 .1 .1 .1 .1 .1 .1 .0)
+    Advanced (a .method) (textOf (now (a .text)) (a .n)) (patternOf (now (a .pattern)) (a .m)) (a .mark .at .0) (a .budget) (now (a .list)) 0 (r .mark .at .0) (counted (r .full) (c .before .before .before .before .before .before .before .loop .steps)) (r .hits) (r .full) (c .before .before .before .step .last .1 .1 .1 .1 .1 .1 .1 .1 .0)
 one c =
     let s = c .before .before .before .before .before .before .before .before .before .before .before .before .before in
     let a = s .args in
@@ -56,9 +56,6 @@ step-requires c κs =
     let same = writing-length _ 0 (l .inv .found) (l .list) (l .hits) (l .inv .writing) in
     (s .pre .0, (s .pre .1 .0, (omega (arith, c .before .before .loop-test .taken, s .pre .0 .inside), omega (arith, same, l .inv .writing .fits))))
 
-add-steps : tie.Need-add-steps Inv-loop μ-loop
-add-steps c = omega (arith, ltb-true (c .before .before .before .before .before .before .before .loop .steps) (c .before .before .before .before .before .before .before .before .before .before .before .before .before .args .budget) (c .before .before .before .before .before .if1 .taken), c .before .before .before .before .before .before .before .before .before .before .before .before .before .fits .budget)
-
 same-length : tie.Need-same-length Inv-loop μ-loop
 same-length c =
     let l = c .before .before .before .before .before .before .before .before .loop in
@@ -70,8 +67,11 @@ returns c =
     let full : c .before .before .before .before .step .result .full ≡ true = search needs in
     ran-to-cut (a .method) (textOf (now (a .text)) (a .n)) (patternOf (now (a .pattern)) (a .m)) (a .mark .at .0) (a .budget) (now (a .list)) _ _ _ _ (rw full at (one (c .before)))
 
+add-steps : tie.Need-add-steps Inv-loop μ-loop
+add-steps c = omega (arith, ltb-true (c .before .before .before .before .before .before .before .before .loop .steps) (c .before .before .before .before .before .before .before .before .before .before .before .before .before .before .args .budget) (c .before .before .before .before .before .before .if1 .taken), c .before .before .before .before .before .before .before .before .before .before .before .before .before .before .fits .budget)
+
 sub-advance : tie.Need-sub-advance Inv-loop μ-loop
-sub-advance c = omega (arith, one (c .before) .within)
+sub-advance c = let made = rw (c .if2 .left) at (one (c .before)) in omega (arith, made .within)
 
 advance-requires : tie.Need-advance-requires Inv-loop μ-loop
 advance-requires c κs =
@@ -142,9 +142,9 @@ run-spec =
     add-end
     loop-holds
     step-requires
-    add-steps
     same-length
     returns
+    add-steps
     sub-advance
     advance-requires
     add-steps-2
