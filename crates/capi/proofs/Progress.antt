@@ -3,8 +3,7 @@
 use Prim.Native.Nat.{ℕ}
 use mathlib.Core.Path.{_≡_, refl, sym, ap, _∙_}
 use mathlib.Core.Logic.{_⊎_, inl, inr}
-use mathlib.Core.Option.{Option, none, some, Option·some-ne-none, Option·some-injective}
-use native.Mathlib.Omega.{arith}
+use mathlib.Core.Option.{Option, some, Option·some-ne-none, Option·some-injective}
 use Rattle.bits.specs.Packed.{Packed}
 use Rattle.rules.specs.Pattern.{Pattern}
 use Rattle.search.specs.declared.Outcome.{Outcome}

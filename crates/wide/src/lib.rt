@@ -294,34 +294,31 @@ pub fn advance(
     let end = n - m + 1;
     let zero = move_of(m, cells, 0);
     let one = move_of(m, cells, 1);
+    let mut at = s.0;
     let mut steps = 0u32;
-    let mut found = Found {
-        at: s,
-        hits: had,
-        full: false,
-    };
-    while (found.at.0 < end) & (steps < budget) & !found.full {
-        let to = next_mark(text, n, m, zero, one, found.at);
-        let flags = scan(text, n, m, cells, found.at);
-        found = settle(
-            text,
-            n,
-            pattern,
-            m,
-            h,
-            found.at,
-            to,
-            flags,
-            list,
-            found.hits,
-        );
-        steps += !found.full as u32;
+    let mut hits = had;
+    while (at < end) & (steps < budget) {
+        let from = Place(at);
+        let to = next_mark(text, n, m, zero, one, from);
+        let flags = scan(text, n, m, cells, from);
+        let found = settle(text, n, pattern, m, h, from, to, flags, list, hits);
+        let there = found.at;
+        hits = found.hits;
+        if found.full {
+            return Advance {
+                at: there,
+                steps: steps,
+                hits: hits,
+                full: true,
+            };
+        }
+        steps += 1;
+        at = there.0;
     }
-    let at = found.at;
     Advance {
-        at: at,
+        at: Place(at),
         steps: steps,
-        hits: found.hits,
-        full: found.full,
+        hits: hits,
+        full: false,
     }
 }
