@@ -201,10 +201,11 @@ enum mitongory_marks {
  * Occurrences may overlap. No search makes more than 2^30 steps, so a budget of UINT32_MAX is never spent.
  *
  * Where an occurrence finds no free cell, the step that came to it is cut short and not counted, and the call stops with
- * MITONGORY_FULL and the mark at that occurrence; the next call makes that step again and counts it. So the steps of all
- * calls of a search from mark 0 are together at most the last mark. A call with an empty list and a step to make can stop
- * with MITONGORY_FULL, no step made and the mark where it was: it does so where an occurrence is at the mark. Going on with
- * an empty list would then never end. With a free cell and a budget of one step or more a call moves the mark or is done.
+ * MITONGORY_FULL and the mark at that occurrence. The next call's step from there counts as usual, unless it is cut too. So
+ * the steps of all calls of a search from mark 0 are together at most the last mark. A call can stop with MITONGORY_FULL
+ * and no step made: it may have written places and moved the mark all the same. With no free cell and an occurrence at the
+ * mark it stops so with the mark where it was, and going on with an empty list would never end. With a free cell and a
+ * budget of one step or more a call moves the mark or is done.
  *
  *   text, pattern   packed bits; there may be more bytes than the bit counts need, and what is in them never matters
  *   method          one of enum mitongory_method

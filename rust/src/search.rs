@@ -49,7 +49,7 @@ pub enum Stop {
     /// Every place is decided.
     Done,
     /// The occurrence at this place found no free cell in the list. The mark is at it. The step that came to it is not
-    /// counted; the next call makes it again.
+    /// counted; the next call's step from here counts as usual, unless it is cut too.
     Full(u32),
     /// The budget was spent before the last place was decided.
     Spent,
@@ -104,21 +104,21 @@ impl fmt::Debug for Scratch {
 /// Makes at most `budget` steps from the mark on and writes the occurrences, rising, to the front of the list. The
 /// other cells of the list stay as they were.
 ///
-/// The call stops early where an occurrence finds no free cell: with [`Stop::Full`], and the step that was cut is not
-/// counted. So a call with an empty list can stop with no step made and the mark where it was (an occurrence is at the
-/// mark), and going on with an empty list would never end. With a free cell and a budget of one step or more a call
-/// moves the mark or is done.
+/// The call allocates nothing and keeps nothing: the mark in the answer is all that the next call needs. Each call makes
+/// the method's tables anew, which took two microseconds or less where it was measured, so budgets of ten thousand steps
+/// and more lose little by it.
 ///
-/// The call allocates nothing and keeps nothing: the mark in the
-/// answer is all that the next call needs. Each call makes the method's tables anew, which took two microseconds or
-/// less where it was measured, so budgets of ten thousand steps and more lose little by it.
+/// The call stops early where an occurrence finds no free cell: with [`Stop::Full`], and the step that was cut is not
+/// counted. It may then have made no step and yet have written places and moved the mark, so it is the mark that tells
+/// whether a search goes on. With an empty list and an occurrence at the mark a call stops full with no step made and
+/// the mark where it was, and going on with an empty list would never end. With a free cell and a budget of one step or
+/// more a call moves the mark or is done.
 ///
 /// A call writes all occurrences from its mark on that lie before the mark that it leaves. It is proved of every list of
 /// such calls on one text and one pattern, of which the first begins at [`Mark::START`] and each goes on from the mark
 /// before it, refused calls included: the places that they wrote, joined, are all occurrences before the last mark,
 /// rising and each once, whatever the methods, budgets and lists are; and the steps that they made are together at most
-/// the last mark. This is the theorem `whole`
-/// (`crates/capi/proofs/CallList.antt`).
+/// the last mark. This is the theorem `whole` (`crates/capi/proofs/CallList.antt`).
 ///
 /// ```
 /// use mitongory::{search, Bits, Mark, Method, Scratch, Stop};

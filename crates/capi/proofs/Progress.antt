@@ -1,18 +1,23 @@
--- A call from C that returned 0 is an accepted call of the library, so it moves the mark, or stays, as that one does.
+-- A call from C that returned 0 is an accepted call of the library, so it moves the mark, or stays, as that one does; and calls
+-- with no cell never leave an occurrence.
 -- Assumes nothing.
 use Prim.Native.Nat.{ℕ}
 use mathlib.Core.Path.{_≡_, refl, sym, ap, _∙_}
 use mathlib.Core.Logic.{_⊎_, inl, inr}
+use mathlib.Core.List.{List, [], _∷_}
 use mathlib.Core.Option.{Option, some, Option·some-ne-none, Option·some-injective}
+use native.Mathlib.Omega.{arith}
+use lib.ListN.{length}
 use Rattle.bits.specs.Packed.{Packed}
 use Rattle.rules.specs.Pattern.{Pattern}
+use Rattle.rules.specs.Occurrence.{Occurs}
 use Rattle.search.specs.declared.Outcome.{Outcome}
 use Rattle.search.specs.declared.Outcome.the-variants.{Accepted, Refused}
 use Rattle.search.specs.Calls as library
 use Rattle.search.proofs.Progress as search
 use Rattle.capi.specs.Scan.{stopNumber, Searches}
-use Rattle.capi.specs.CallList.{callOf, Made, markAfter, stepsIn, stopIn, cell}
-use Rattle.capi.specs.Progress.{Progress}
+use Rattle.capi.specs.CallList.{callOf, Made, markAfter, stepsIn, stopIn, cell, AllMade, lastMark, allSteps}
+use Rattle.capi.specs.Progress.{Progress, NoCells, Stuck}
 use Rattle.capi.proofs.CallList.{stopNumbers, Skipped, Taken, each}
 
 module _ (t : Packed) (w : Pattern) (s : ℕ) (c : Made) (zero : c .result ≡ 0) where
@@ -46,3 +51,20 @@ module _ (t : Packed) (w : Pattern) (s : ℕ) (c : Made) (zero : c .result ≡ 0
 
   pub progress : Searches (callOf t w s (c .asked)) (c .result) (c .list-after) (c .scratch-after) (c .answer-after) → Progress t w s c
   progress p = by (each t w s c p)
+
+-- a call with no cell, from a mark at which the pattern stands
+one-stuck : (t : Packed) (w : Pattern) (s : ℕ) (c : Made) → Skipped t w s c ⊎ Taken t w s c → Occurs t w s → length (c .asked .list) ≡ 0
+    → (markAfter s c ≡ s) × (stepsIn c ≡ 0)
+one-stuck t w s c (inl k) here none = (k .mark, k .steps)
+one-stuck t w s c (inr k) here none =
+    let stop = search.one-stuck (library.requestOf t w s (k .call .asked)) (k .call .outcome) _ _ (k .searched) here (rw (k .list) none) in
+    (k .mark ∙ stop .0, k .steps ∙ stop .1)
+
+-- Going on with no cell never ends: every list of such calls leaves the mark at the occurrence, and makes no step.
+pub stuck : (t : Packed) (w : Pattern) (s : ℕ) → Occurs t w s → (calls : List Made) → AllMade t w s calls → NoCells calls → Stuck s calls
+unfolding lastMark allSteps
+stuck t w s here [] made none = record { mark = refl; steps = refl }
+stuck t w s here (c ∷ cs) made none =
+    let first = one-stuck t w s c (each t w s c (made .0)) here (none .0) in
+    let rest = stuck t w s here cs (rw (first .0) at (made .1)) (none .1) in
+    record { mark = rw (first .0) (rest .mark); steps = omega (arith, first .1, rest .steps) }

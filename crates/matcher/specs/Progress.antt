@@ -63,8 +63,8 @@ pub record Stepped (x : Method) (t : Packed) (w : Pattern) (s : ℕ) (before : L
   pub cells : list ≡ sets before had (take (length before - had) (finds x t w s))
 
 -- Steps from the mark s, at most so many, with the list's cells from `had` on free: the places found stand there. Either
--- each has a cell, and the machine goes on from the mark that the steps leave; or the last step found one that has none,
--- and the machine's run ends at it.
+-- each has a cell, and the machine goes on from the mark that the steps leave; or one step more, which is not counted,
+-- found one that has none, and the machine's run ends at it.
 pub record Advanced (x : Method) (t : Packed) (w : Pattern) (s budget : ℕ) (before : List ℕ) (had at steps hits : ℕ) (no-cell : Bool) (list : List ℕ) : Type 0 where
   pub found : List ℕ
   pub writing : Writing before had found list hits

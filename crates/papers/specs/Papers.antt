@@ -1,5 +1,6 @@
--- The starred rows of "Papers from the course", in document 01's order, and after them the rows of the changes (the tail method, a
--- sitting, the cut step), as one claim about the definitions. The texts R1 and R2 and the patterns V1 and V2 are those of rules/specs/Papers.antt.
+-- The starred rows of "Papers from the course", in document 01's order, and after them the rows of the changes (the
+-- tail method, a sitting, the cut step), as one claim about the definitions. The texts R1 and R2 and the patterns V1
+-- and V2 are those of rules/specs/Papers.antt.
 use mathlib.Core.Path.{_≡_}
 use mathlib.Core.List.{[], _∷_}
 use mathlib.Core.Option.{some}
@@ -29,7 +30,8 @@ pub record Papers : Type 0 where
   -- "Skip, R2, V2: marks 0, 9, 13."
   pub skip-marks : marks Skip R2 V2 2 ≡ 0 ∷ 9 ∷ 13 ∷ []
   pub skip-run : wholeRun Skip R2 V2 1000 ≡ record { steps = 2; written = 0 ∷ 6 ∷ 12 ∷ []; mark = 13; ending = done }
-  -- "R2, V2, one cell: place 0 written, full at 6"; and document 02: "In 01's one-cell paper the steps become plain 6, hash 1, wide 0."
+  -- "R2, V2, one cell: place 0 written, full at 6"; and document 02: "In 01's one-cell paper the steps become plain 6, hash
+  -- 1, wide 0."
   pub one-cell-plain : wholeRun Plain R2 V2 1 ≡ record { steps = 6; written = 0 ∷ []; mark = 6; ending = full 6 }
   pub one-cell-hash : wholeRun Hash R2 V2 1 ≡ record { steps = 1; written = 0 ∷ []; mark = 6; ending = full 6 }
   pub one-cell-wide : wholeRun Wide R2 V2 1 ≡ record { steps = 0; written = 0 ∷ []; mark = 6; ending = full 6 }
@@ -76,11 +78,11 @@ pub record Papers : Type 0 where
   pub next-call-skip : run Skip R2 V2 1000 6 2 ≡ record { steps = 1; written = 6 ∷ 12 ∷ []; mark = 13; ending = done }
   pub next-call-wide : run Wide R2 V2 1000 6 2 ≡ record { steps = 1; written = 6 ∷ 12 ∷ []; mark = 13; ending = done }
   pub last-call-tail : run Tail R2 V2 1000 12 1 ≡ record { steps = 1; written = 12 ∷ []; mark = 13; ending = done }
-  -- It is tried only while fewer steps than the budget are made, and it uses up none of them: with a budget of 6 plain does not come to
-  -- it, with 7 it does; and in wide a budget of 1 is not spent
+  -- It is tried only while fewer steps than the budget are made, and it uses up none of them: with a budget of 6 plain does
+  -- not come to it, with 7 it does; and in wide a budget of 1 is not spent
   pub cut-not-tried : run Plain R2 V2 6 0 1 ≡ record { steps = 6; written = 0 ∷ []; mark = 6; ending = spent }
   pub cut-tried : run Plain R2 V2 7 0 1 ≡ record { steps = 6; written = 0 ∷ []; mark = 6; ending = full 6 }
   pub cut-not-spent : run Wide R2 V2 1 0 1 ≡ record { steps = 0; written = 0 ∷ []; mark = 6; ending = full 6 }
-  -- and with no cell at all the call stops where it began
+  -- and with no cell at all, and an occurrence at the mark, the call stops where it began
   pub no-cell-plain : wholeRun Plain R2 V2 0 ≡ record { steps = 0; written = []; mark = 0; ending = full 0 }
   pub no-cell-hash : wholeRun Hash R2 V2 0 ≡ record { steps = 0; written = []; mark = 0; ending = full 0 }

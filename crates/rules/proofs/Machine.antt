@@ -69,9 +69,10 @@ module _ (x : Method) (t : Packed) (w : Pattern) (s cells : ℕ) where
   cut-uncounted b h l = ap (λ (r : Run). r .steps) (run-cut b h l)
 
   -- "and the next call's step from that hit counts as usual": a step from any mark whose places have cells counts 1
-  pub step-counted : (b : ℕ) → s < places t w → length (finds x t w s) ≤ cells → 1 ≤ run x t w (suc b) s cells .steps
+  pub step-counted : (b : ℕ) → s < places t w → length (finds x t w s) ≤ cells
+      → run x t w (suc b) s cells .steps ≡ 1 + run x t w b (next x t w s) (cells - length (finds x t w s)) .steps
   unfolding after
-  step-counted b h l = rw (run-step b h l) (omega arith)
+  step-counted b h l = ap (λ (r : Run). r .steps) (run-step b h l)
 
 -- what each turn leaves
 
@@ -185,14 +186,22 @@ left x t w fit (suc b) s cells h =
 
 -- when the mark moves
 
--- with a step and a cell to use it does
-pub moves : (t : Packed) (w : Pattern) (s b cells : ℕ) (r : Run) → Left t w s b cells r → s < places t w → 0 < b → 0 < cells → s < r .mark
+-- where places are left and there is a step to make, it does, if there is a cell for an occurrence at the mark
+pub moves : (t : Packed) (w : Pattern) (s b cells : ℕ) (r : Run) → Left t w s b cells r → s < places t w → 0 < b → (Occurs t w s → 0 < cells) → s < r .mark
 moves t w s b cells r l inside some-steps some-cells = go (r .ending) refl
   where
+    at-hit : (p : ℕ) → r .ending ≡ full p → (s ≡ r .mark) ⊎ (s < r .mark) → s < r .mark
+    at-hit p e (inr h) = h
+    at-hit p e (inl h) =
+        let f = l .full-at p e in
+        let same : p ≡ s = sym (f .0) ∙ sym h in
+        let cell = some-cells (rw same at (f .1)) in
+        absurd (omega (arith, f .2, ap length (l .written-are), occurrences-length t w s (r .mark)))
+
     go : (e : Ending) → r .ending ≡ e → s < r .mark
     go done e = omega (arith, l .done-iff .0 e)
     go spent e = omega (arith, l .spent-all e, l .bounded)
-    go (full p) e = omega (arith, l .full-at p e .2, ap length (l .written-are), occurrences-length t w s (r .mark))
+    go (full p) e = at-hit p e (eq-or-below (l .low))
 
 -- with no cell it stays at an occurrence, and no step is made
 pub stays : (x : Method) (t : Packed) (w : Pattern) (s b : ℕ) → unfit x (w .count) ≡ false → Occurs t w s → 0 < b

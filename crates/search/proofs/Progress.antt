@@ -1,4 +1,4 @@
--- An accepted call with a step and a cell to use moves the mark; calls with no cell never leave an occurrence.
+-- An accepted call with a step and a cell to use moves the mark or is done; calls with no cell never leave an occurrence.
 -- Assumes nothing.
 use Prim.Native.Nat.{ℕ, zero, suc, _<_}
 use mathlib.Core.Path.{_≡_, refl, _∙_, ap}
@@ -49,7 +49,7 @@ module _ (q : Request) (a : Answer) (list scratch : List ℕ) (made : Searched q
       }
 
 -- a call with no cell, from a mark at which the pattern stands
-one-stuck : (q : Request) (o : Outcome) (list scratch : List ℕ) → Searched q o list scratch → Occurs (q .text) (q .pattern) (q .mark) → length (q .list) ≡ 0
+pub one-stuck : (q : Request) (o : Outcome) (list scratch : List ℕ) → Searched q o list scratch → Occurs (q .text) (q .pattern) (q .mark) → length (q .list) ≡ 0
     → (markOf (q .mark) o ≡ q .mark) × (stepsOf o ≡ 0)
 unfolding machine stopped
 one-stuck q (Refused r) list scratch made here none = (refl, refl)

@@ -10,10 +10,11 @@ use Rattle.rules.specs.Machine.{full}
 use Rattle.search.specs.Verdict.{Request, endingOf}
 use Rattle.search.specs.Calls.{Call, lastMark, allSteps}
 
--- What an accepted call does to the mark, where its budget has a step: with a cell it moves the mark, unless the places are at
--- an end; with none it stays at an occurrence.
+-- What an accepted call does to the mark, where places are left and its budget has a step: it moves the mark, if there is a cell
+-- for an occurrence at the mark; with no cell it stays there, makes no step and stops with full.
 pub record Progress (q : Request) (a : Answer) : Type 0 where
-  pub moves : q .mark < places (q .text) (q .pattern) → 0 < q .budget → 0 < length (q .list) → q .mark < a .mark .at .0
+  pub moves : q .mark < places (q .text) (q .pattern) → 0 < q .budget → (Occurs (q .text) (q .pattern) (q .mark) → 0 < length (q .list))
+      → q .mark < a .mark .at .0
   pub stays : Occurs (q .text) (q .pattern) (q .mark) → 0 < q .budget → length (q .list) ≡ 0
       → (a .steps ≡ 0) × (a .mark .at .0 ≡ q .mark) × (endingOf (a .stop) ≡ full (q .mark))
 

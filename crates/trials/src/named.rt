@@ -1,5 +1,6 @@
 // Named cases: the course's papers, what students write, and the examples of rows 1 to 7 of the table of refusals, in
-// document 01; and tail on the same pairs and one more, by the rule of document 02. Each is also compared with the naive side.
+// document 01; and by the rules of document 02 tail on the same pairs and one more, and the steps that a full list cuts. Each
+// is also compared with the naive side.
 use crate::call;
 use crate::call::ALL;
 use crate::call::Call;
