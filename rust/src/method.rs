@@ -6,10 +6,10 @@ use std::str::FromStr;
 /// A method of searching. All find the same occurrences; they differ in the patterns that they take, in what a step
 /// does, and in speed.
 ///
-/// On texts with about as many ones as zeros, skip is the fastest for patterns from 15 bits on, hash as fast from 128
-/// bits on, and plain the fastest below 15. Where 90 % of the bits are zeros, plain is the fastest from 15 bits to some
-/// hundred, and hash above. Tail is the fastest on none of these: choose it for its steps. `docs/PERFORMANCE.md` in the
-/// repository has the measurements.
+/// On texts with about as many ones as zeros, skip is the fastest for patterns from 15 bits on, hash as fast at some
+/// hundred bits, and plain the fastest below 15. Where 90 % of the bits are zeros, plain is the fastest from 15 bits to
+/// some hundred, and hash above. Tail is the fastest on none of these: choose it for its steps. `docs/PERFORMANCE.md`
+/// in the repository has the measurements.
 #[derive(Clone, Copy, Debug, PartialEq, Eq, Hash)]
 #[repr(u32)]
 #[non_exhaustive]
