@@ -1,6 +1,6 @@
--- The promise of the search call for C leaves nothing open but the first 4,224 cells of the scratch after an accepted call. Where the method is known and there are four answer cells it
--- is the promise of the library's search call; so the theorem about every list of calls (`whole` of the search crate) is
--- about calls from C too.
+-- The promise of the search call for C leaves nothing open but the cells of the scratch before the method's figure after an
+-- accepted call. Where the method is known and there are four answer cells it is the promise of the library's search call; so
+-- the theorem about every list of calls (`whole` of the search crate) is about calls from C too.
 -- Assumes nothing.
 use Prim.Native.Nat.{ℕ, _≤_}
 use mathlib.Core.Path.{_≡_, sym, _∙_}
@@ -13,24 +13,25 @@ use Rattle.search.specs.declared.Outcome.the-variants.{Accepted, Refused}
 use Rattle.search.specs.Verdict.{Verdict, refused, accepted, Searched}
 use Rattle.search.proofs.Answers.{answered}
 use Rattle.capi.specs.Told.{Tells}
-use Rattle.capi.specs.Scan.{methodNamed, known, Call, requestOf, searchVerdict, ScratchAfter, Searches}
+use Rattle.capi.specs.Scan.{methodNamed, known, Call, requestOf, searchVerdict, figureOf, ScratchAfter, Searches}
 use Rattle.capi.specs.Inner.{outcomeTells}
 use Rattle.capi.proofs.Calling.{searched-by}
 
 -- one result, one list, one answer, and one scratch but for the cells that are free
 pub unique : (q : Call) (r r′ : ℕ) (list list′ scratch scratch′ answer answer′ : List ℕ) → Searches q r list scratch answer
     → Searches q r′ list′ scratch′ answer′
-    → (r ≡ r′) × (list ≡ list′) × (answer ≡ answer′) × ScratchAfter (searchVerdict q) scratch′ scratch
+    → (r ≡ r′) × (list ≡ list′) × (answer ≡ answer′) × ScratchAfter (figureOf (methodNamed (q .method)) (q .m)) (searchVerdict q) scratch′ scratch
 unique q r r′ list list′ scratch scratch′ answer answer′ s t = (
   s .tells .result-is ∙ sym (t .tells .result-is),
   s .list-is ∙ sym (t .list-is),
   s .tells .answer-is ∙ sym (t .tells .answer-is),
-  same (searchVerdict q) (s .scratch-is) (t .scratch-is),
+  same (figureOf (methodNamed (q .method)) (q .m)) (searchVerdict q) (s .scratch-is) (t .scratch-is),
 )
   where
-    same : (v : Verdict Run) → ScratchAfter v (q .scratch) scratch → ScratchAfter v (q .scratch) scratch′ → ScratchAfter v scratch′ scratch
-    same (refused k) h g = h ∙ sym g
-    same (accepted a) h g = (h .0 ∙ sym (g .0), h .1 ∙ sym (g .1))
+    same : (figure : ℕ) (v : Verdict Run) → ScratchAfter figure v (q .scratch) scratch → ScratchAfter figure v (q .scratch) scratch′
+        → ScratchAfter figure v scratch′ scratch
+    same figure (refused k) h g = h ∙ sym g
+    same figure (accepted a) h g = (h .0 ∙ sym (g .0), h .1 ∙ sym (g .1))
 
 -- the outcome of the library's call that a call from C is
 pub record AsSearched (q : Call) (x : Method) (r : ℕ) (list scratch answer : List ℕ) : Type 0 where
@@ -47,7 +48,7 @@ as-searched q x r list scratch answer e h s =
     go : (o : Outcome) (l u : List ℕ) → Searched (requestOf x q) o l u → AsSearched q x r list scratch answer
     go (Accepted a) l u p =
         let v = searched-by q x e h ∙ p .verdict-is in
-        let kept = rw v at (s .scratch-is) in
+        let kept = rw (v, e) at (s .scratch-is) in
         record {
           outcome = Accepted a;
           searched =

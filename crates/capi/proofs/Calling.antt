@@ -113,7 +113,7 @@ module _ (q : Call) where
       record {
         tells = rw v (rw (s .answer .steps, s .answer .occurrences, s .answer .mark, s .answer .ending) at t);
         list-is = rw v (s .list-is);
-        scratch-is = rw v (s .scratch-length, s .scratch-rest);
+        scratch-is = rw (v, e) (s .scratch-length, s .scratch-rest);
       }
   search-tells x (Refused y) r list scratch answer e h s t =
       let v = searched-by x e h ∙ s .verdict-is in

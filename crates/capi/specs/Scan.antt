@@ -1,4 +1,4 @@
--- The search call, and H(B) by itself.
+-- The search call, and by themselves H(B) and the cells of scratch that a search takes.
 use Prim.Native.Nat.{ℕ}
 use mathlib.Core.Path.{_≡_}
 use mathlib.Core.Bool.{cond}
@@ -7,8 +7,9 @@ use lib.Dec.{eqb}
 use lib.ListN.{length, drop}
 use Rattle.rules.specs.declared.Method.{Method}
 use Rattle.rules.specs.declared.Method.the-variants.{Plain, Hash, Skip, Wide, Tail}
+use Rattle.rules.specs.Scratch.{scratchCells}
 use Rattle.rules.specs.Machine.{Ending, done, spent, full, Run}
-use Rattle.search.specs.Verdict.{Request, Verdict, refused, accepted, verdict, hashVerdict, scratchCells}
+use Rattle.search.specs.Verdict.{Request, Verdict, refused, accepted, verdict, hashVerdict, scratchVerdict}
 use Rattle.capi.specs.Told.{unknownMethod, answerCellsMissing, Told, gives, refuses, unlessCells, Tells}
 
 -- ---- the numbers of the methods and of the ways to stop
@@ -77,26 +78,41 @@ abbrev pub listAfter : Verdict Run → List ℕ → List ℕ
 listAfter (refused number) before = before
 listAfter (accepted r) before = r .written ++ drop (length (r .written)) before
 
--- the scratch at exit: the first 4,224 cells are free after an accepted call, later ones stay
-abbrev pub ScratchAfter : Verdict Run → List ℕ → List ℕ → Type 0
-ScratchAfter (refused number) before after = after ≡ before
-ScratchAfter (accepted r) before after =
-    (length after ≡ length before) × (drop scratchCells after ≡ drop scratchCells before)
+-- the cells of scratch that the method takes for a pattern of m bits
+abbrev pub figureOf : Named → ℕ → ℕ
+figureOf (known x) m = scratchCells x m
+figureOf unknown m = 0
+
+-- the scratch at exit: after an accepted call the cells before the figure are free, and those from there on stay
+abbrev pub ScratchAfter : ℕ → Verdict Run → List ℕ → List ℕ → Type 0
+ScratchAfter figure (refused number) before after = after ≡ before
+ScratchAfter figure (accepted r) before after = (length after ≡ length before) × (drop figure after ≡ drop figure before)
 
 -- The promise of `mitongory_search`, for buffers that are `list`, `scratch` and `answer` at exit.
 pub record Searches (q : Call) (result : ℕ) (list scratch answer : List ℕ) : Type 0 where
   pub tells : Tells (runTells (searchVerdict q)) (q .answer) result answer
   pub list-is : list ≡ listAfter (searchVerdict q) (q .list)
-  pub scratch-is : ScratchAfter (searchVerdict q) (q .scratch) scratch
+  pub scratch-is : ScratchAfter (figureOf (methodNamed (q .method)) (q .m)) (searchVerdict q) (q .scratch) scratch
 
 -- ---- H(B) by itself
 
--- one answer cell: H(B)
-abbrev pub hashTells : Verdict ℕ → Told
-hashTells (refused number) = refuses number
-hashTells (accepted d) = gives (d ∷ [])
+-- one answer cell
+abbrev pub numberTells : Verdict ℕ → Told
+numberTells (refused number) = refuses number
+numberTells (accepted d) = gives (d ∷ [])
 
 -- What `mitongory_hash_value` tells: 101 first, then refusals 3 to 5, or H(B).
 unfoldable pub hashTold : List ℕ → ℕ → ℕ → List ℕ → Told
 hashTold pattern m value answer =
-    unlessCells 1 answer (refuses answerCellsMissing) (hashTells (hashVerdict (record { bytes = pattern; count = m }) value))
+    unlessCells 1 answer (refuses answerCellsMissing) (numberTells (hashVerdict (record { bytes = pattern; count = m }) value))
+
+-- ---- the cells of scratch by themselves
+
+abbrev pub cellsBy : Named → ℕ → List ℕ → Told
+cellsBy unknown m answer = refuses unknownMethod
+cellsBy (known x) m answer = unlessCells 1 answer (refuses answerCellsMissing) (numberTells (scratchVerdict x m))
+
+-- What `mitongory_scratch_cells` tells: 100 first, then 101, then refusal 3 for m, then 5 where the method does not take m, or the
+-- method's figure.
+unfoldable pub cellsTold : ℕ → ℕ → List ℕ → Told
+cellsTold method m answer = cellsBy (methodNamed method) m answer

@@ -1,4 +1,4 @@
-// The search call, and H(B) by itself.
+// The search call, and by themselves H(B) and the cells of scratch that a search takes.
 use crate::ANSWER_CELLS_MISSING;
 use crate::UNKNOWN_METHOD;
 use crate::cells;
@@ -9,12 +9,14 @@ use search::Outcome;
 use search::Stop;
 use search::hash_value;
 use search::hash_value::HashAnswer;
+use search::scratch_cells;
+use search::scratch_cells::CellsAnswer;
 ghost use mathlib.Core.Path.{_≡_};
 ghost use Prim.Native.Nat.{_≤_};
 ghost use lib.ListN.{length};
 ghost use Rattle.search.specs.Verdict.{endingOf};
 ghost use Rattle.capi.specs.Told.{Tells};
-ghost use Rattle.capi.specs.Scan.{methodNamed, stopNumber, Searches, hashTold};
+ghost use Rattle.capi.specs.Scan.{methodNamed, stopNumber, Searches, hashTold, cellsTold};
 ghost use Rattle.capi.specs.Inner.{namedBy, outcomeTells};
 
 // The method that a number names.
@@ -106,5 +108,24 @@ pub extern "C" fn mitongory_hash_value(pattern: &[u8], m: u64, value: u8, answer
     match hash {
         HashAnswer::Refused(why) => why.number(),
         HashAnswer::Value(d) => cells::one(answer, d as u64),
+    }
+}
+
+// How many cells of scratch a search by the method takes for a pattern of m bits.
+#[no_mangle]
+pub extern "C" fn mitongory_scratch_cells(method: u32, m: u64, answer: &mut [u64]) -> u32
+    ensures { λ r. ⌜ Tells (cellsTold method m (now (answer .entry))) (now (answer .entry)) r (now (answer .exit)) ⌝ }
+{
+    let named = method_of(method);
+    let Named::Known(known) = named else {
+        return UNKNOWN_METHOD;
+    };
+    if answer.len() < 1 {
+        return ANSWER_CELLS_MISSING;
+    }
+    let told = scratch_cells::scratch_cells(known, m);
+    match told {
+        CellsAnswer::Refused(why) => why.number(),
+        CellsAnswer::Cells(count) => cells::one(answer, count),
     }
 }

@@ -15,7 +15,8 @@ ghost use lib.Seq.{paste};
 ghost use Rattle.rules.specs.Occurrence.{places};
 ghost use Rattle.rules.specs.Step.{next};
 ghost use Rattle.hash.specs.HashMoves.{Entered};
-ghost use Rattle.matcher.specs.Tables.{cellsFor, Prepared};
+ghost use Rattle.rules.specs.Scratch.{scratchCells};
+ghost use Rattle.matcher.specs.Tables.{Prepared};
 ghost use Rattle.matcher.specs.Progress.{textOf, patternOf, HeadOf, GoodPattern, Ready, Stepped, Advanced};
 
 // The first cells once more after themselves.
@@ -68,7 +69,7 @@ fn enter(pattern: &[u8], m: u32, d: u32, k: u32, cells: &mut [u64])
 // All moves, the greatest first: the least one of a value is entered last.
 pub fn prepare(pattern: &[u8], m: u32, cells: &mut [u64])
     requires { ⌜ GoodPattern Method.Hash (patternOf (now pattern) m) ⌝ }
-    requires { ⌜ cellsFor Method.Hash m ≤ length (now cells) ⌝ }
+    requires { ⌜ scratchCells Method.Hash m ≤ length (now cells) ⌝ }
     ensures { λ _. ⌜ Prepared Method.Hash (patternOf (now (pattern .entry)) m) (now (cells .entry)) (now (cells .exit)) ⌝ }
 {
     prepare_ends(pattern, m, cells);

@@ -10,11 +10,12 @@ use Rattle.bits.specs.Packed.{Packed}
 use Rattle.rules.specs.declared.Method.{Method}
 use Rattle.rules.specs.Pattern.{Pattern}
 use Rattle.rules.specs.Occurrence.{places}
+use Rattle.rules.specs.Scratch.{scratchCells}
 use Rattle.search.specs.declared.Answer.{Answer}
 use Rattle.search.specs.declared.Refusal.{Refusal}
 use Rattle.search.specs.declared.Outcome.{Outcome}
 use Rattle.search.specs.declared.Outcome.the-variants.{Accepted, Refused}
-use Rattle.search.specs.Verdict.{Request, verdict, machine, scratchCells, numberOfRefusal, RefusedAs, AcceptedAs, Searched}
+use Rattle.search.specs.Verdict.{Request, verdict, machine, numberOfRefusal, RefusedAs, AcceptedAs, Searched}
 use Rattle.lines.specs.Line.{acceptedLine, refusedLine}
 use Rattle.hits.specs.Printed.{lineOf, searchLine}
 use Rattle.hits.specs.Report.{numberIn}
@@ -45,7 +46,7 @@ pub record Call (t : Packed) (w : Pattern) (x : Method) (list scratch : List ℕ
   pub mark : ℕ
   pub fresh : mark ≡ 0
   pub cells : places t w ≤ length list
-  pub room : scratchCells ≤ length scratch
+  pub room : scratchCells x (w .count) ≤ length scratch
   pub promise : Searched (record { text = t; pattern = w; method = x; mark = mark; budget = 4294967295; list = list; scratch = scratch }) o after free
 
 module _ {t : Packed} {w : Pattern} {x : Method} {list scratch : List ℕ} {o : Outcome} {after free : List ℕ} (call : Call t w x list scratch o after free) where

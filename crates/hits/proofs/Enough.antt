@@ -14,12 +14,13 @@ use Rattle.rules.specs.declared.Method.{Method}
 use Rattle.rules.specs.Pattern.{Pattern}
 use Rattle.rules.specs.Occurrence.{places}
 use Rattle.rules.specs.Step.{unfit, finds, next}
+use Rattle.rules.specs.Scratch.{scratchCells}
 use Rattle.rules.specs.Machine.{Run, after, run}
 use Rattle.rules.proofs.Occurrence.{occurrences-length}
 use Rattle.rules.proofs.Step.{next-le}
 use Rattle.rules.proofs.Methods.{sound}
 use Rattle.rules.proofs.Machine.{run-spent, run-ended, run-step}
-use Rattle.search.specs.Verdict.{Request, Verdict, refused, accepted, rows, AllFail, Given, machine, verdict, scratchCells}
+use Rattle.search.specs.Verdict.{Request, Verdict, refused, accepted, rows, AllFail, Given, machine, verdict}
 use Rattle.search.proofs.Verdict.{refused-iff, accepted-fail, accepted-iff}
 use Rattle.hits.specs.Printed.{asked}
 
@@ -71,7 +72,7 @@ lent t w x list scratch =
     }
 
 module _ (t : Packed) (w : Pattern) (x : Method) (list other scratch free : List ℕ)
-    (cells : places t w ≤ length list) (others : places t w ≤ length other) (room : scratchCells ≤ length scratch) (frees : scratchCells ≤ length free) where
+    (cells : places t w ≤ length list) (others : places t w ≤ length other) (room : scratchCells x (w .count) ≤ length scratch) (frees : scratchCells x (w .count) ≤ length free) where
   same-rows : rows (lent t w x list scratch) ≡ rows (lent t w x other free)
   unfolding rows
   same-rows = rw (le-ltb _ _ room, le-ltb _ _ frees)
@@ -95,9 +96,9 @@ module _ (t : Packed) (w : Pattern) (x : Method) (list other scratch free : List
           ∙ ap accepted (enough x t w (f .1 .1 .1 .1 .0) 4294967295 0 (length list) (length other) (omega arith) (omega arith))
           ∙ sym (accepted-iff (lent t w x other free) .1 (same-fail f))
 
-pub verdict-enough : (t : Packed) (w : Pattern) (x : Method) (list scratch : List ℕ) → places t w ≤ length list → scratchCells ≤ length scratch
+pub verdict-enough : (t : Packed) (w : Pattern) (x : Method) (list scratch : List ℕ) → places t w ≤ length list → scratchCells x (w .count) ≤ length scratch
     → verdict (lent t w x list scratch) ≡ verdict (asked t w x)
 unfolding asked
 verdict-enough t w x list scratch cells room =
-    same t w x list (replicate (places t w) 0) scratch (replicate scratchCells 0) cells (rw (length-replicate {A = ℕ} (places t w) 0) (omega arith)) room
-    (rw (length-replicate {A = ℕ} scratchCells 0) (omega arith))
+    same t w x list (replicate (places t w) 0) scratch (replicate (scratchCells x (w .count)) 0) cells (rw (length-replicate {A = ℕ} (places t w) 0) (omega arith)) room
+    (rw (length-replicate {A = ℕ} (scratchCells x (w .count)) 0) (omega arith))

@@ -15,10 +15,11 @@ use Rattle.rules.specs.declared.Method.the-variants.{Plain, Hash, Skip, Wide, T
 use Rattle.rules.specs.Pattern.{Pattern}
 use Rattle.rules.specs.Occurrence.{places, Occurs, occurrences}
 use Rattle.rules.specs.Step.{unfit}
+use Rattle.rules.specs.Scratch.{scratchCells}
 use Rattle.rules.specs.Machine.{Ending, done, spent, full, Run, Left}
 use Rattle.rules.proofs.Occurrence.{occurs-bits, occurrences-rising, occurrences-exactly, occurrences-length}
 use Rattle.rules.proofs.Machine.{left}
-use Rattle.search.specs.Verdict.{Verdict, refused, accepted, rows, judge, AllFail, machine, verdict, scratchCells}
+use Rattle.search.specs.Verdict.{Verdict, refused, accepted, rows, judge, AllFail, machine, verdict}
 use Rattle.search.proofs.Verdict.{accepted-iff}
 use Rattle.lines.specs.Input.{Parsed, bad, lines, parse, Bits, Good}
 use Rattle.lines.specs.Packing.{packed}
@@ -69,8 +70,8 @@ module _ (s w t : List ℕ) (g : Good s w t) (x : Method) where
   text-short : length t ≤ 2 ^ 30
   text-short = omega (arith, g .text-most)
 
-  cells : scratchCells ≤ length (replicate {A = ℕ} scratchCells 0)
-  cells = rw (length-replicate {A = ℕ} scratchCells 0) (omega arith)
+  cells : scratchCells x (length w) ≤ length (replicate {A = ℕ} (scratchCells x (length w)) 0)
+  cells = rw (length-replicate {A = ℕ} (scratchCells x (length w)) 0) (omega arith)
 
   -- "where the search refuses": only a word that the way does not take
   pub unfit-line : unfit x (length w) ≡ true → searchLine (textIn t) (patternIn w) x ≡ refusedLine x 5

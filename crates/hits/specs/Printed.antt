@@ -7,8 +7,9 @@ use Rattle.rules.specs.declared.Method.{Method}
 use Rattle.rules.specs.declared.Method.the-variants.{Plain, Hash, Skip, Wide, Tail}
 use Rattle.rules.specs.Pattern.{Pattern}
 use Rattle.rules.specs.Occurrence.{places}
+use Rattle.rules.specs.Scratch.{scratchCells}
 use Rattle.rules.specs.Machine.{Run}
-use Rattle.search.specs.Verdict.{Request, Verdict, refused, accepted, verdict, scratchCells}
+use Rattle.search.specs.Verdict.{Request, Verdict, refused, accepted, verdict}
 use Rattle.lines.specs.Input.{Parsed, bad, lines, parse}
 use Rattle.lines.specs.Packing.{packed}
 use Rattle.lines.specs.Line.{acceptedLine, refusedLine}
@@ -25,7 +26,7 @@ abbrev pub patternIn : List ℕ → Pattern
 patternIn bits = record { bytes = packed bits; count = length bits }
 
 -- "It searches in each way from 0 with budget 2^32 − 1 and cells for all": a cell for each place. The scratch is the least
--- that a search takes. Of the cells a search asks only how many they are.
+-- that the search takes. Of the cells a search asks only how many they are.
 unfoldable pub asked : Packed → Pattern → Method → Request
 asked t w x =
     record {
@@ -35,7 +36,7 @@ asked t w x =
       mark = 0;
       budget = 2 ^ 32 - 1;
       list = replicate (places t w) 0;
-      scratch = replicate scratchCells 0;
+      scratch = replicate (scratchCells x (w .count)) 0;
     }
 
 -- "A line .. is the method, steps, hit count and the hits; where the search refuses, it is the method, `refused` and

@@ -8,9 +8,13 @@ use Rattle.search.specs.Verdict.{numberOfRefusal}
 abbrev pub inputMost : ℕ
 inputMost = 6147
 
--- how many places there are at most, how many bytes a line takes then (28 and eleven for each place), and five of them
+-- how many places there are at most, how many bits a pattern has at most, how many bytes a line takes then (28 and eleven for
+-- each place), and five of them
 abbrev pub placesMost : ℕ
 placesMost = 4096
+
+abbrev pub patternMost : ℕ
+patternMost = 2048
 
 abbrev pub lineMost : ℕ
 lineMost = 45084

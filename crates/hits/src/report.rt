@@ -12,15 +12,15 @@ ghost use lib.ListN.{length, take};
 ghost use Rattle.io.specs.Counts.{Counts};
 ghost use Rattle.lines.specs.Inner.{Puts, Sized, inputIn};
 ghost use Rattle.hits.specs.Printed.{searchLine, fiveLines, printedOf, printed};
-ghost use Rattle.hits.specs.Report.{numberIn, placesMost, lineMost, printedMost};
+ghost use Rattle.hits.specs.Report.{numberIn, placesMost, patternMost, lineMost, printedMost};
 
 // "budget 2^32 − 1"
 const BUDGET: u32 = 4294967295;
 
-// A cell for each place, and the scratch that a search asks.
+// A cell for each place, and the scratch that is enough for every method.
 const CELLS: usize = 4096;
 
-const SCRATCH: usize = 4224;
+const SCRATCH: usize = 4222;
 
 // The number of a refused call; an accepted one has none.
 fn number_in(outcome: Outcome) -> u32
@@ -33,7 +33,7 @@ fn number_in(outcome: Outcome) -> u32
 }
 
 // Searches the first n bits of the text for the pattern of m bits by one method, and stores its line from `at` on. There
-// are at most 4,096 places, and a cell for each.
+// are at most 4,096 places, and a cell for each; and the pattern has no more bits than any search takes.
 fn search_line(
     text: &[u8],
     n: u64,
@@ -43,7 +43,7 @@ fn search_line(
     out: &mut [u8],
     at: usize,
 ) -> usize
-    requires { ⌜ (1 + n - m ≤ placesMost) × (at + lineMost ≤ length (now out)) ⌝ }
+    requires { ⌜ (1 + n - m ≤ placesMost) × (m ≤ patternMost) × (at + lineMost ≤ length (now out)) ⌝ }
     ensures is { λ r. ⌜ Puts (now (out .entry)) at (searchLine (record { bytes = now (text .entry); count = n }) (record { bytes = now (pattern .entry); count = m }) method) r (now (out .exit)) ⌝ }
     ensures short { λ r. ⌜ r ≤ at + lineMost ⌝ }
 {
@@ -58,7 +58,7 @@ fn search_line(
 
 // Stores the lines of the five methods.
 fn five_lines(text: &[u8], n: u64, pattern: &[u8], m: u64, out: &mut [u8]) -> usize
-    requires { ⌜ (1 + n - m ≤ placesMost) × (printedMost ≤ length (now out)) ⌝ }
+    requires { ⌜ (1 + n - m ≤ placesMost) × (m ≤ patternMost) × (printedMost ≤ length (now out)) ⌝ }
     ensures is { λ r. ⌜ Puts (now (out .entry)) 0 (fiveLines (record { bytes = now (text .entry); count = n }) (record { bytes = now (pattern .entry); count = m })) r (now (out .exit)) ⌝ }
     ensures short { λ r. ⌜ r ≤ printedMost ⌝ }
 {

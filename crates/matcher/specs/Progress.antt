@@ -11,8 +11,9 @@ use Rattle.rules.specs.declared.Method.{Method}
 use Rattle.rules.specs.Pattern.{Pattern}
 use Rattle.rules.specs.Occurrence.{places}
 use Rattle.rules.specs.Step.{unfit, finds, next}
+use Rattle.rules.specs.Scratch.{scratchCells}
 use Rattle.rules.specs.Machine.{full, run, after}
-use Rattle.matcher.specs.Tables.{Tables, cellsFor}
+use Rattle.matcher.specs.Tables.{Tables}
 
 -- bytes and a bit count as the text
 abbrev pub textOf : List ℕ → ℕ → Packed
@@ -41,7 +42,7 @@ pub record Ready (x : Method) (t : Packed) (w : Pattern) (cells : List ℕ) : Ty
   pub pattern : GoodPattern x w
   pub inside : w .count ≤ t .count
   pub tables : Tables x w cells
-  pub room : cellsFor x (w .count) ≤ length cells
+  pub room : scratchCells x (w .count) ≤ length cells
 
 -- k steps from the mark s find these places, each with a cell, and leave the mark at: whatever budget and cells are left
 unfoldable pub Reaches : Method → Packed → Pattern → ℕ → ℕ → List ℕ → ℕ → Type 0

@@ -1,17 +1,18 @@
--- What each method's tables hold, in the first cells of the scratch, and how many cells they take.
+-- What each method's tables hold. They lie in the first cells of the scratch, as many as `scratchCells` has for the method.
 use Prim.Native.Nat.{ℕ, zero, suc, _+_, _-_, _*_, _/_, _%_, _<_}
 use mathlib.Core.Path.{_≡_}
 use mathlib.Core.Bool.{Bool, _&&_, cond}
 use mathlib.Core.List.{List}
 use lib.Dec.{leb, ltb, eqb}
 use lib.ListN.{length, getD, drop}
-use Rattle.bits.specs.Packed.{bytesFor, bitsAt, bitOf, weight}
+use Rattle.bits.specs.Packed.{bitsAt, bitOf, weight}
 use Rattle.rules.specs.declared.Method.{Method}
 use Rattle.rules.specs.declared.Method.the-variants.{Plain, Hash, Skip, Wide, Tail}
 use Rattle.rules.specs.Ranges.{implies}
 use Rattle.rules.specs.Pattern.{Pattern, agrees}
 use Rattle.rules.specs.Plain.{rowBit, maskBit}
 use Rattle.rules.specs.Hash.{hashAgain}
+use Rattle.rules.specs.Scratch.{scratchCells}
 
 -- plain: how many cells of eight row bytes the longest row takes
 abbrev pub rowChunks : ℕ → ℕ
@@ -61,16 +62,8 @@ Tables Skip w cells = SkipTables w cells
 Tables Wide w cells = WideTables w cells
 Tables Tail w cells = TailTables w cells
 
--- the cells that a method's tables take
-abbrev pub cellsFor : Method → ℕ → ℕ
-cellsFor Plain m = 16 * bytesFor (m + 7)
-cellsFor Hash m = 256
-cellsFor Skip m = 256 + m
-cellsFor Wide m = 2 * (63 + m)
-cellsFor Tail m = 2
-
 -- the tables are made, and the cells after them are as they were
 pub record Prepared (x : Method) (w : Pattern) (before cells : List ℕ) : Type 0 where
   pub tables : Tables x w cells
   pub size : length cells ≡ length before
-  pub rest : drop (cellsFor x (w .count)) cells ≡ drop (cellsFor x (w .count)) before
+  pub rest : drop (scratchCells x (w .count)) cells ≡ drop (scratchCells x (w .count)) before

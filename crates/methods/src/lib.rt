@@ -8,13 +8,14 @@ use rules::Method;
 ghost use Prim.Native.Nat.{_≤_, _<_};
 ghost use lib.ListN.{length};
 ghost use Rattle.rules.specs.Occurrence.{places};
-ghost use Rattle.matcher.specs.Tables.{cellsFor, Prepared};
+ghost use Rattle.rules.specs.Scratch.{scratchCells};
+ghost use Rattle.matcher.specs.Tables.{Prepared};
 ghost use Rattle.matcher.specs.Progress.{textOf, patternOf, HeadOf, GoodPattern, Ready, Stepped, Advanced};
 
 // Makes the method's tables.
 pub fn prepare(method: Method, pattern: &[u8], m: u32, cells: &mut [u64])
     requires { ⌜ GoodPattern method (patternOf (now pattern) m) ⌝ }
-    requires { ⌜ cellsFor method m ≤ length (now cells) ⌝ }
+    requires { ⌜ scratchCells method m ≤ length (now cells) ⌝ }
     ensures { λ _. ⌜ Prepared method (patternOf (now (pattern .entry)) m) (now (cells .entry)) (now (cells .exit)) ⌝ }
 {
     match method {

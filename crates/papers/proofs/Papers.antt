@@ -72,4 +72,17 @@ papers =
       cut-not-spent = refl;
       no-cell-plain = refl;
       no-cell-hash = refl;
+      cells-plain-1 = refl;
+      cells-plain-2 = refl;
+      cells-plain-9 = refl;
+      cells-plain-10 = refl;
+      cells-plain-2048 = refl;
+      cells-hash-8 = refl;
+      cells-hash-2048 = refl;
+      cells-skip-15 = refl;
+      cells-skip-2048 = refl;
+      cells-wide-1 = refl;
+      cells-wide-2048 = refl;
+      cells-tail-1 = refl;
+      cells-tail-64 = refl;
     }

@@ -1,5 +1,5 @@
 -- The starred rows of "Papers from the course", in document 01's order, and after them the rows of the changes (the
--- tail method, a sitting, the cut step), as one claim about the definitions. The texts R1 and R2 and the patterns V1
+-- tail method, a sitting, the cut step, the scratch), as one claim about the definitions. The texts R1 and R2 and the patterns V1
 -- and V2 are those of rules/specs/Papers.antt.
 use mathlib.Core.Path.{_≡_}
 use mathlib.Core.List.{[], _∷_}
@@ -7,6 +7,7 @@ use mathlib.Core.Option.{some}
 use Rattle.rules.specs.declared.Method.the-variants.{Plain, Hash, Skip, Wide, Tail}
 use Rattle.rules.specs.Hash.{hashOf}
 use Rattle.rules.specs.Tail.{tailLength}
+use Rattle.rules.specs.Scratch.{scratchCells}
 use Rattle.rules.specs.Machine.{done, spent, full, run}
 use Rattle.rules.specs.Papers.{R1, V1, R2, V2, empty, ones5, one, ones3, zeros200, tailText, tailPattern, allOccurrences, wholeRun, marks}
 use Rattle.positions.specs.Basics.{ok}
@@ -86,3 +87,18 @@ pub record Papers : Type 0 where
   -- and with no cell at all, and an occurrence at the mark, the call stops where it began
   pub no-cell-plain : wholeRun Plain R2 V2 0 ≡ record { steps = 0; written = []; mark = 0; ending = full 0 }
   pub no-cell-hash : wholeRun Hash R2 V2 0 ≡ record { steps = 0; written = []; mark = 0; ending = full 0 }
+  -- The scratch: each method's figure for the shortest and the longest pattern that it takes. Plain's goes by the bytes of its
+  -- longest row, m + 7 bits, and not by those of the pattern: 2 bits take 32 cells, and 10 bits 48
+  pub cells-plain-1 : scratchCells Plain 1 ≡ 16
+  pub cells-plain-2 : scratchCells Plain 2 ≡ 32
+  pub cells-plain-9 : scratchCells Plain 9 ≡ 32
+  pub cells-plain-10 : scratchCells Plain 10 ≡ 48
+  pub cells-plain-2048 : scratchCells Plain 2048 ≡ 4112
+  pub cells-hash-8 : scratchCells Hash 8 ≡ 256
+  pub cells-hash-2048 : scratchCells Hash 2048 ≡ 256
+  pub cells-skip-15 : scratchCells Skip 15 ≡ 271
+  pub cells-skip-2048 : scratchCells Skip 2048 ≡ 2304
+  pub cells-wide-1 : scratchCells Wide 1 ≡ 128
+  pub cells-wide-2048 : scratchCells Wide 2048 ≡ 4222
+  pub cells-tail-1 : scratchCells Tail 1 ≡ 2
+  pub cells-tail-64 : scratchCells Tail 64 ≡ 2

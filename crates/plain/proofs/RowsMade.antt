@@ -17,7 +17,8 @@ use Rattle.bits.proofs.Run.{bit-lt, bit-of-bits}
 use Rattle.rules.specs.declared.Method.the-variants.{Plain}
 use Rattle.rules.specs.Pattern.{Pattern}
 use Rattle.rules.specs.Plain.{inRow, rowBit, maskBit}
-use Rattle.matcher.specs.Tables.{rowChunks, cellsFor, Prepared}
+use Rattle.rules.specs.Scratch.{scratchCells}
+use Rattle.matcher.specs.Tables.{rowChunks, Prepared}
 use Rattle.plain.specs.RowCells.{shiftedBit, Filled}
 use Rattle.rules.proofs.Ranges.{same-test, eq-or-below}
 use Rattle.rules.proofs.Plain.{mask-bit-is, row-bit-is}
@@ -216,10 +217,10 @@ module _ (w : Pattern) where
         };
         size = m .size;
         rest =
-            ext-getD 0 (drop (cellsFor Plain (w .count)) cells) (drop (cellsFor Plain (w .count)) before)
-            (simp length-drop (ap (λ (n : ℕ). n - cellsFor Plain (w .count)) (m .size)))
+            ext-getD 0 (drop (scratchCells Plain (w .count)) cells) (drop (scratchCells Plain (w .count)) before)
+            (simp length-drop (ap (λ (n : ℕ). n - scratchCells Plain (w .count)) (m .size)))
             (λ y h.
-            getD-drop (cellsFor Plain (w .count)) cells y 0
-            ∙ m .rest (cellsFor Plain (w .count) + y) (omega arith)
-            ∙ sym (getD-drop (cellsFor Plain (w .count)) before y 0));
+            getD-drop (scratchCells Plain (w .count)) cells y 0
+            ∙ m .rest (scratchCells Plain (w .count) + y) (omega arith)
+            ∙ sym (getD-drop (scratchCells Plain (w .count)) before y 0));
       }

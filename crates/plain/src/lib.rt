@@ -16,7 +16,8 @@ ghost use lib.Dec.{ltb, eqb};
 ghost use lib.ListN.{length, getD};
 ghost use Rattle.bits.specs.Packed.{bitOf};
 ghost use Rattle.rules.specs.Occurrence.{places};
-ghost use Rattle.matcher.specs.Tables.{rowChunks, cellsFor, Prepared};
+ghost use Rattle.rules.specs.Scratch.{scratchCells};
+ghost use Rattle.matcher.specs.Tables.{rowChunks, Prepared};
 ghost use Rattle.plain.specs.RowCells.{cellFits, shiftedBit, Filled};
 ghost use Rattle.matcher.specs.Progress.{textOf, patternOf, HeadOf, GoodPattern, Ready, Stepped, Advanced};
 
@@ -59,7 +60,7 @@ fn fill(cells: &mut [u64], k: usize, prev: u64, x: u64, prev_mask: u64, mask: u6
 // Makes the rows and their masks.
 pub fn prepare(pattern: &[u8], m: u32, cells: &mut [u64])
     requires { ⌜ GoodPattern Method.Plain (patternOf (now pattern) m) ⌝ }
-    requires { ⌜ cellsFor Method.Plain m ≤ length (now cells) ⌝ }
+    requires { ⌜ scratchCells Method.Plain m ≤ length (now cells) ⌝ }
     ensures { λ _. ⌜ Prepared Method.Plain (patternOf (now (pattern .entry)) m) (now (cells .entry)) (now (cells .exit)) ⌝ }
 {
     let chunks = (m + 70) / 64;

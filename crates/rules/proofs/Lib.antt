@@ -4,6 +4,7 @@ pub mod Ranges
 pub mod Pattern
 pub mod Occurrence
 pub mod Step
+pub mod Scratch
 pub mod Plain
 pub mod Hash
 pub mod Skip

@@ -9,5 +9,6 @@ pub mod Skip
 pub mod Wide
 pub mod Tail
 pub mod Step
+pub mod Scratch
 pub mod Machine
 pub mod Papers

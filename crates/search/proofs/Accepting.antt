@@ -3,15 +3,13 @@
 use mathlib.Core.Path.{_≡_, refl, sym, ap, _∙_}
 use mathlib.Core.Bool.{Bool, true, false, _||_}
 use mathlib.Core.List.{List}
-use Prim.Native.Nat.{ℕ, _+_, _-_, _^_, _≤_, _<_}
+use Prim.Native.Nat.{ℕ, _^_, _≤_, _<_}
 use native.Mathlib.Omega.{arith}
 use borrow.Author.Tests.{ltb-false, eqb-false}
 use lib.Dec.{ltb, eqb}
-use lib.ListN.{length, drop}
-use lib.Seq.{drop-drop}
+use lib.ListN.{length}
 use Rattle.bits.specs.Packed.{Packed}
 use Rattle.rules.specs.declared.Method.{Method}
-use Rattle.rules.specs.declared.Method.the-variants.{Plain, Hash, Skip, Wide, Tail}
 use Rattle.search.specs.declared.Answer.{Answer}
 use Rattle.search.specs.declared.Refusal.{Refusal}
 use Rattle.search.specs.declared.check.Checked.{Checked}
@@ -20,21 +18,12 @@ use Rattle.rules.specs.Pattern.{Pattern}
 use Rattle.rules.specs.Occurrence.{places}
 use Rattle.rules.specs.Step.{unfit}
 use Rattle.rules.specs.Machine.{run, stopped}
-use Rattle.search.specs.Verdict.{Request, rows, AllFail, refused, machine, verdict, scratchCells, numberOfRefusal, Carries}
-use Rattle.matcher.specs.Tables.{cellsFor, Prepared}
-use Rattle.matcher.specs.Progress.{GoodPattern}
+use Rattle.search.specs.Verdict.{Request, rows, AllFail, refused, machine, verdict, numberOfRefusal, Carries}
+use Rattle.matcher.specs.Tables.{Prepared}
 use Rattle.search.specs.Parts.{checkOf, checkVerdict, Allowed, Ran, Tells, Leaves}
 use Rattle.rules.proofs.Occurrence.{occurrences-length}
 use Rattle.rules.proofs.Machine.{run-ended, left}
 use Rattle.search.proofs.Verdict.{judge-accepted, judge-refused, refused-judge}
-
--- each method's tables fit into the scratch that a call must have
-pub tables-fit : (x : Method) (w : Pattern) → GoodPattern x w → cellsFor x (w .count) ≤ scratchCells
-tables-fit Plain w g = omega (arith, g .few-bits)
-tables-fit Hash w g = omega arith
-tables-fit Skip w g = omega (arith, g .few-bits)
-tables-fit Wide w g = omega (arith, g .few-bits)
-tables-fit Tail w g = omega arith
 
 neither : (a b : Bool) → (a || b) ≡ false → (a ≡ false) × (b ≡ false)
 neither true b e = let z : _≡_ {A = ℕ} 0 1 = cc in absurd (omega arith)
@@ -76,21 +65,13 @@ module _ (x : Method) (t : Packed) (w : Pattern) (s budget : ℕ) (before cells 
 
   -- the steps are made
   pub leaves-run : (a : Answer) (at steps hits : ℕ) (cut : Bool) (list scratch : List ℕ) → Ran x t w s budget before at steps hits cut list
-      → Tells a at steps hits cut (places t w) → cellsFor x (w .count) ≤ scratchCells → Prepared x w cells scratch
-      → Leaves x t w s budget before cells a list scratch
-  leaves-run a at steps hits cut list scratch r k fits p =
-      let k0 = cellsFor x (w .count) in
-      let whole : scratchCells ≡ k0 + (scratchCells - k0) = omega arith in
+      → Tells a at steps hits cut (places t w) → Prepared x w cells scratch → Leaves x t w s budget before cells a list scratch
+  leaves-run a at steps hits cut list scratch r k p =
       record {
         answer = record { steps = k .steps-are ∙ r .steps-are; occurrences = k .hits-are ∙ r .hits-are; mark = k .mark-is ∙ r .mark-is; ending = k .ending-is ∙ r .ending-is };
         list-is = r .list-is;
         scratch-length = p .size;
-        scratch-rest =
-            ap (λ (n : ℕ). drop n scratch) whole
-            ∙ sym (drop-drop (scratchCells - k0) k0 scratch)
-            ∙ ap (drop (scratchCells - k0)) (p .rest)
-            ∙ drop-drop (scratchCells - k0) k0 cells
-            ∙ ap (λ (n : ℕ). drop n cells) (sym whole);
+        scratch-rest = p .rest;
       }
 
 -- what the check said, of the whole request

@@ -1,5 +1,5 @@
--- The promise of the search call leaves nothing open but the first 4,224 cells of the scratch after an accepted call: each
--- request has an answer that meets it, and only one.
+-- The promise of the search call leaves nothing open but the cells of the scratch before the method's figure after an accepted
+-- call: each request has an answer that meets it, and only one.
 use Prim.Native.Nat.{ℕ}
 use mathlib.Core.Path.{_≡_, refl, sym, ap, _∙_}
 use mathlib.Core.Bool.{cond}
@@ -15,8 +15,9 @@ use Rattle.search.specs.declared.Refusal.{Refusal}
 use Rattle.search.specs.declared.Refusal.the-variants.{TextTooLong, TextBytesMissing, PatternLength, PatternBytesMissing, PatternUnfit, BeyondEnd, ScratchTooShort}
 use Rattle.search.specs.declared.Stop.{Stop}
 use Rattle.search.specs.declared.Stop.the-variants.{Done, Full, Spent}
+use Rattle.rules.specs.Scratch.{scratchCells}
 use Rattle.rules.specs.Machine.{Ending, done, spent, full, Run}
-use Rattle.search.specs.Verdict.{Request, Row, Verdict, refused, accepted, machine, verdict, numberOfRefusal, endingOf, scratchCells, Carries, Searched}
+use Rattle.search.specs.Verdict.{Request, Row, Verdict, refused, accepted, machine, verdict, numberOfRefusal, endingOf, Carries, Searched}
 use Rattle.search.proofs.Verdict.{in-order, refused-iff, accepted-fail, accepted-iff}
 
 -- back from a number to the refusal, and from an ending to the way to stop
@@ -77,19 +78,22 @@ carries-only a r c = λ i. record {
 accepted-not-refused : (v : Verdict Run) (r : Run) (k : ℕ) → v ≡ accepted r → v ≡ refused k → ⊥
 accepted-not-refused v r k p q = let z : _≡_ {A = ℕ} 0 1 = cc in omega arith
 
--- "The first 4,224 scratch cells are free after an accepted call (the only part left free)": on all else two scratches agree
-abbrev pub SameScratch : Outcome → List ℕ → List ℕ → Type 0
-SameScratch (Accepted a) s u = (length s ≡ length u) × (drop scratchCells s ≡ drop scratchCells u)
-SameScratch (Refused r) s u = s ≡ u
+-- The scratch cells before the method's figure "are free after an accepted call (the only part left free)": on all else two
+-- scratches agree
+abbrev pub SameScratch : Request → Outcome → List ℕ → List ℕ → Type 0
+SameScratch q (Accepted a) s u =
+    let figure = scratchCells (q .method) (q .pattern .count) in
+    (length s ≡ length u) × (drop figure s ≡ drop figure u)
+SameScratch q (Refused r) s u = s ≡ u
 
 -- what two calls with the same request have in common
-pub record Same (o p : Outcome) (l m s u : List ℕ) : Type 0 where
+pub record Same (q : Request) (o p : Outcome) (l m s u : List ℕ) : Type 0 where
   pub outcome : o ≡ p
   pub list : l ≡ m
-  pub scratch : SameScratch o s u
+  pub scratch : SameScratch q o s u
 
 -- one answer, one list and one scratch as the call returns
-pub unique : (q : Request) (o p : Outcome) (l m s u : List ℕ) → Searched q o l s → Searched q p m u → Same o p l m s u
+pub unique : (q : Request) (o p : Outcome) (l m s u : List ℕ) → Searched q o l s → Searched q p m u → Same q o p l m s u
 unique q (Accepted a) (Accepted b) l m s u c d =
     record {
       outcome = ap {B = Outcome} Accepted (carries-only a (machine q) (c .answer) ∙ sym (carries-only b (machine q) (d .answer)));

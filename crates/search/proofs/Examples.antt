@@ -17,19 +17,20 @@ use Rattle.rules.specs.Skip.{shows, shownAt, skipFinds}
 use Rattle.rules.specs.Wide.{counts, stands, flagged, wideFinds, lastIndex, wideNext}
 use Rattle.rules.specs.Tail.{prefixEnds, tailLength, tailFinds, tailNext}
 use Rattle.rules.specs.Step.{finds, ahead, next}
+use Rattle.rules.specs.Scratch.{mostCells}
 use Rattle.rules.specs.Machine.{stopped, cut, after, run}
-use Rattle.search.specs.Verdict.{rows, judge, accepted, machine, verdict, hashVerdict}
+use Rattle.search.specs.Verdict.{rows, judge, accepted, machine, verdict, hashVerdict, scratchVerdict}
 use Rattle.search.specs.Examples.{Examples, ask, long}
 use Rattle.search.proofs.Verdict.{accepted-iff}
 
 -- none of the rows applies to 2^30 bits, where their bytes are there
-long-text : (bytes : List ℕ) → 2 ^ 27 ≤ length bytes → verdict (ask Plain (long bytes) V1 0 4224) ≡ accepted (machine (ask Plain (long bytes) V1 0 4224))
+long-text : (bytes : List ℕ) → 2 ^ 27 ≤ length bytes → verdict (ask Plain (long bytes) V1 0 mostCells) ≡ accepted (machine (ask Plain (long bytes) V1 0 mostCells))
 unfolding rows
 long-text bytes h =
-    accepted-iff (ask Plain (long bytes) V1 0 4224) .1 (refl, (le-ltb (length bytes) (2 ^ 27) h, (refl, (refl, (refl, (refl, (refl, tt)))))))
+    accepted-iff (ask Plain (long bytes) V1 0 mostCells) .1 (refl, (le-ltb (length bytes) (2 ^ 27) h, (refl, (refl, (refl, (refl, (refl, tt)))))))
 
 pub examples : Examples
-unfolding bitAt bitsAt every among least greatest agrees matches occurs occurrences fromBits inRow rowBit maskBit rowByte rowMask rowFits plainFinds meets hashOf hashAgain lastEight hashFinds hashNext shows shownAt skipFinds counts stands flagged wideFinds lastIndex wideNext prefixEnds tailLength tailFinds tailNext finds ahead next stopped cut after run rows judge verdict hashVerdict
+unfolding bitAt bitsAt every among least greatest agrees matches occurs occurrences fromBits inRow rowBit maskBit rowByte rowMask rowFits plainFinds meets hashOf hashAgain lastEight hashFinds hashNext shows shownAt skipFinds counts stands flagged wideFinds lastIndex wideNext prefixEnds tailLength tailFinds tailNext finds ahead next stopped cut after run rows judge verdict hashVerdict scratchVerdict
 examples =
     record {
       no-1 = refl;
@@ -42,9 +43,18 @@ examples =
       no-5-tail = refl;
       no-4-tail = refl;
       from-5-tail = refl;
-      no-7-tail = refl;
       no-6 = refl;
+      plain-48 = refl;
       no-7 = refl;
+      no-7-careless = refl;
+      hash-256 = refl;
+      no-7-hash = refl;
+      skip-277 = refl;
+      no-7-skip = refl;
+      wide-146 = refl;
+      no-7-wide = refl;
+      tail-2 = refl;
+      no-7-tail = refl;
       all-hold = refl;
       from-5 = refl;
       from-6 = refl;
@@ -65,4 +75,10 @@ examples =
       h-3 = refl;
       h-4 = refl;
       h-5 = refl;
+      cells-value = refl;
+      cells-3 = refl;
+      cells-3-long = refl;
+      cells-5 = refl;
+      cells-5-skip = refl;
+      cells-5-tail = refl;
     }

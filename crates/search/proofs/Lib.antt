@@ -1,6 +1,7 @@
 -- The laws of the definitions and the theorems about them; the first files have the names of those in specs/.
 pub mod Verdict
 pub mod Answers
+pub mod Scratch
 pub mod Calls
 pub mod Progress
 pub mod Padding

@@ -8,7 +8,8 @@ use lib.ListN.{length}
 use Rattle.bits.specs.Packed.{bytesFor}
 use Rattle.rules.specs.Occurrence.{places}
 use Rattle.rules.specs.Step.{unfit}
-use Rattle.search.specs.Verdict.{Request, Verdict, rows, judge, refused, accepted, scratchCells}
+use Rattle.rules.specs.Scratch.{scratchCells}
+use Rattle.search.specs.Verdict.{Request, Verdict, rows, judge, refused, accepted}
 use Rattle.search.specs.Parts.{checkVerdict}
 
 module _ (q : Request) where
@@ -50,10 +51,10 @@ module _ (q : Request) where
               row-6 h = simp (le-ltb _ _ a, le-ltb _ _ b, ne-eqb _ _ c, le-ltb _ _ d, le-ltb _ _ e, f, lt-ltb _ _ h)
 
               module _ (g : q .mark ≤ places (q .text) (q .pattern)) where
-                pub row-7 : length (q .scratch) < scratchCells → Comes (refused 7)
+                pub row-7 : length (q .scratch) < scratchCells (q .method) (q .pattern .count) → Comes (refused 7)
                 unfolding checkVerdict rows judge
                 row-7 h = simp (le-ltb _ _ a, le-ltb _ _ b, ne-eqb _ _ c, le-ltb _ _ d, le-ltb _ _ e, f, le-ltb _ _ g, lt-ltb _ _ h)
 
-                pub no-row : scratchCells ≤ length (q .scratch) → Comes (accepted tt)
+                pub no-row : scratchCells (q .method) (q .pattern .count) ≤ length (q .scratch) → Comes (accepted tt)
                 unfolding checkVerdict rows judge
                 no-row h = simp (le-ltb _ _ a, le-ltb _ _ b, ne-eqb _ _ c, le-ltb _ _ d, le-ltb _ _ e, f, le-ltb _ _ g, le-ltb _ _ h)

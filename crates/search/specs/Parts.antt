@@ -12,8 +12,9 @@ use Rattle.search.specs.declared.check.Checked.{Checked}
 use Rattle.search.specs.declared.check.Checked.the-variants.{Passed, Refused}
 use Rattle.rules.specs.Pattern.{Pattern}
 use Rattle.rules.specs.Occurrence.{places}
+use Rattle.rules.specs.Scratch.{scratchCells}
 use Rattle.rules.specs.Machine.{Ending, done, spent, full, run}
-use Rattle.search.specs.Verdict.{Verdict, refused, accepted, rows, judge, numberOfRefusal, endingOf, scratchCells, Carries}
+use Rattle.search.specs.Verdict.{Verdict, refused, accepted, rows, judge, numberOfRefusal, endingOf, Carries}
 use Rattle.matcher.specs.Progress.{GoodPattern}
 
 -- how a run stopped, by whether a place found no cell, the mark left and the number of places
@@ -45,14 +46,14 @@ pub record Allowed (x : Method) (t : Packed) (w : Pattern) (s : ℕ) (scratch : 
   pub bytes-there : bytesFor (t .count) ≤ length (t .bytes)
   pub pattern : GoodPattern x w
   pub inside : s ≤ places t w
-  pub room : scratchCells ≤ length scratch
+  pub room : scratchCells x (w .count) ≤ length scratch
 
 -- What an accepted call leaves: its answer is what the machine comes to, and so are list and scratch.
 pub record Leaves (x : Method) (t : Packed) (w : Pattern) (s budget : ℕ) (before cells : List ℕ) (a : Answer) (list scratch : List ℕ) : Type 0 where
   pub answer : Carries a (run x t w budget s (length before))
   pub list-is : list ≡ run x t w budget s (length before) .written ++ drop (length (run x t w budget s (length before) .written)) before
   pub scratch-length : length scratch ≡ length cells
-  pub scratch-rest : drop scratchCells scratch ≡ drop scratchCells cells
+  pub scratch-rest : drop (scratchCells x (w .count)) scratch ≡ drop (scratchCells x (w .count)) cells
 
 -- the answer of a call by what its steps left
 pub record Tells (a : Answer) (at steps hits : ℕ) (cut : Bool) (E : ℕ) : Type 0 where

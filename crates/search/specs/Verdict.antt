@@ -19,6 +19,7 @@ use Rattle.rules.specs.Pattern.{Pattern}
 use Rattle.rules.specs.Occurrence.{places}
 use Rattle.rules.specs.Hash.{hashOf}
 use Rattle.rules.specs.Step.{unfit}
+use Rattle.rules.specs.Scratch.{scratchCells}
 use Rattle.rules.specs.Machine.{Ending, done, spent, full, Run, run}
 
 -- "A search call gets recording, word, method, mark, budget, a list of 32-bit cells and a scratch of 64-bit cells"
@@ -45,38 +46,35 @@ abbrev pub textBytesMissing : Packed → Row
 textBytesMissing t = record { number = 2; holds = ltb (length (t .bytes)) (bytesFor (t .count)) }
 
 -- "m = 0 or above 2,048"
-abbrev pub patternLength : Pattern → Row
-patternLength w = record { number = 3; holds = eqb (w .count) 0 || ltb 2048 (w .count) }
+abbrev pub patternLength : ℕ → Row
+patternLength m = record { number = 3; holds = eqb m 0 || ltb 2048 m }
 
 -- "word bytes fewer than ceil(m/8)"
 abbrev pub patternBytesMissing : Pattern → Row
 patternBytesMissing w = record { number = 4; holds = ltb (length (w .bytes)) (bytesFor (w .count)) }
 
 -- "word too short: m below 8 for hash and H, below 15 for skip"; and for tail a word of more than 64 bits "gets 5"
-abbrev pub patternUnfit : Method → Pattern → Row
-patternUnfit x w = record { number = 5; holds = unfit x (w .count) }
+abbrev pub patternUnfit : Method → ℕ → Row
+patternUnfit x m = record { number = 5; holds = unfit x m }
 
 -- "mark above E"
 abbrev pub markBeyond : Packed → Pattern → ℕ → Row
 markBeyond t w s = record { number = 6; holds = ltb (places t w) s }
 
--- "scratch below 4,224 cells"
-abbrev pub scratchCells : ℕ
-scratchCells = 4224
-
-abbrev pub scratchTooShort : List ℕ → Row
-scratchTooShort cells = record { number = 7; holds = ltb (length cells) scratchCells }
+-- "Number 7 is given below those figures"
+abbrev pub scratchTooShort : Method → ℕ → List ℕ → Row
+scratchTooShort x m cells = record { number = 7; holds = ltb (length cells) (scratchCells x m) }
 
 -- "A search checks 1 to 7 in that order."
 unfoldable pub rows : Request → List Row
 rows q =
     textTooLong (q .text)
     ∷ textBytesMissing (q .text)
-    ∷ patternLength (q .pattern)
+    ∷ patternLength (q .pattern .count)
     ∷ patternBytesMissing (q .pattern)
-    ∷ patternUnfit (q .method) (q .pattern)
+    ∷ patternUnfit (q .method) (q .pattern .count)
     ∷ markBeyond (q .text) (q .pattern) (q .mark)
-    ∷ scratchTooShort (q .scratch)
+    ∷ scratchTooShort (q .method) (q .pattern .count) (q .scratch)
     ∷ []
 
 -- a refusal with its number, or a value
@@ -116,7 +114,12 @@ verdict q = judge (rows q) (machine q)
 -- "H(B) can also be had by itself from a word and a value, with refusals 3, 4, 5."
 unfoldable pub hashVerdict : Pattern → ℕ → Verdict ℕ
 hashVerdict w B =
-    judge (patternLength w ∷ patternBytesMissing w ∷ patternUnfit Hash w ∷ []) (hashOf w B)
+    judge (patternLength (w .count) ∷ patternBytesMissing w ∷ patternUnfit Hash (w .count) ∷ []) (hashOf w B)
+
+-- The cells of scratch that a method takes for a pattern of m bits, by themselves: refused with 3 for m, then with 5 where the
+-- method does not take m.
+unfoldable pub scratchVerdict : Method → ℕ → Verdict ℕ
+scratchVerdict x m = judge (patternLength m ∷ patternUnfit x m ∷ []) (scratchCells x m)
 
 -- the number of each refusal
 abbrev pub numberOfRefusal : Refusal → ℕ
@@ -142,13 +145,14 @@ pub record Carries (a : Answer) (r : Run) : Type 0 where
   pub ending : endingOf (a .stop) ≡ r .ending
 
 -- An accepted call: its answer is the machine's, the places written are the first cells of the list, "cells not written
--- stay", and "the first 4,224 scratch cells are free after an accepted call; later ones stay".
+-- stay"; and "cells from there on stay as they were", of the scratch from the method's figure on. The cells before it are free.
 pub record AcceptedAs (q : Request) (a : Answer) (list scratch : List ℕ) : Type 0 where
   pub verdict-is : verdict q ≡ accepted (machine q)
   pub answer : Carries a (machine q)
   pub list-is : list ≡ machine q .written ++ drop (length (machine q .written)) (q .list)
   pub scratch-length : length scratch ≡ length (q .scratch)
-  pub scratch-rest : drop scratchCells scratch ≡ drop scratchCells (q .scratch)
+  pub scratch-rest : drop (scratchCells (q .method) (q .pattern .count)) scratch
+      ≡ drop (scratchCells (q .method) (q .pattern .count)) (q .scratch)
 
 -- "A refusal returns its number only; mark, list, scratch and every other buffer are unchanged."
 pub record RefusedAs (q : Request) (r : Refusal) (list scratch : List ℕ) : Type 0 where

@@ -15,7 +15,7 @@ pub enum Checked {
 }
 
 // Whether the method takes no pattern of m bits.
-fn does_not_fit(method: Method, m: u64) -> bool
+pub fn does_not_fit(method: Method, m: u64) -> bool
     ensures { λ r. ⌜ r ≡ unfit method m ⌝ }
 {
     match method {
@@ -68,7 +68,7 @@ pub fn check(
     if places(n, m) < mark.0 as u64 {
         return Checked::Refused(Refusal::BeyondEnd);
     }
-    if scratch.len() < 4224 {
+    if (scratch.len() as u64) < method.scratch_cells(m as u32) {
         return Checked::Refused(Refusal::ScratchTooShort);
     }
     Checked::Passed

@@ -3,6 +3,7 @@
 mod call;
 mod check;
 pub mod hash_value;
+pub mod scratch_cells;
 
 use bits::Place;
 use check::Checked;

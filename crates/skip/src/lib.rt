@@ -16,7 +16,8 @@ ghost use Prim.Native.Nat.{_+_, _-_, _*_, _/_, _^_, _≤_, _<_};
 ghost use lib.ListN.{length, drop, replicate};
 ghost use Rattle.rules.specs.Occurrence.{places};
 ghost use Rattle.skip.specs.SkipChains.{Filled};
-ghost use Rattle.matcher.specs.Tables.{cellsFor, chained, lastShown, SkipTables, Prepared};
+ghost use Rattle.rules.specs.Scratch.{scratchCells};
+ghost use Rattle.matcher.specs.Tables.{chained, lastShown, SkipTables, Prepared};
 ghost use Rattle.matcher.specs.Progress.{textOf, patternOf, HeadOf, GoodPattern, Ready, Stepped, Advanced};
 
 // The last whole byte inside place s, document 01's b.
@@ -69,7 +70,7 @@ fn enter(pattern: &[u8], m: u32, j: u32, k: u32, cells: &mut [u64])
 // Enters the indices of the places of a step from a mark 8 b + 1 on, 56 by one load.
 pub fn prepare(pattern: &[u8], m: u32, cells: &mut [u64])
     requires { ⌜ GoodPattern Method.Skip (patternOf (now pattern) m) ⌝ }
-    requires { ⌜ cellsFor Method.Skip m ≤ length (now cells) ⌝ }
+    requires { ⌜ scratchCells Method.Skip m ≤ length (now cells) ⌝ }
     ensures { λ _. ⌜ Prepared Method.Skip (patternOf (now (pattern .entry)) m) (now (cells .entry)) (now (cells .exit)) ⌝ }
 {
     clear(cells);

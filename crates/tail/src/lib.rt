@@ -26,7 +26,8 @@ ghost use Prim.Native.Nat.{_≤_, _<_};
 ghost use lib.ListN.{length};
 ghost use Rattle.bits.specs.Packed.{bitsAt};
 ghost use Rattle.rules.specs.Occurrence.{places};
-ghost use Rattle.matcher.specs.Tables.{cellsFor, Prepared};
+ghost use Rattle.rules.specs.Scratch.{scratchCells};
+ghost use Rattle.matcher.specs.Tables.{Prepared};
 ghost use Rattle.tail.specs.Lengths.{Longest, Moves, spreadOf, firstBit, FirstRun, Made, Keeps, Top, Differs, Settled};
 ghost use Rattle.matcher.specs.Progress.{textOf, patternOf, HeadOf, GoodPattern, Ready, Stepped, Advanced};
 
@@ -35,7 +36,7 @@ const ALL: u64 = 18446744073709551615;
 // Makes the two masks.
 pub fn prepare(pattern: &[u8], m: u32, cells: &mut [u64])
     requires { ⌜ GoodPattern Method.Tail (patternOf (now pattern) m) ⌝ }
-    requires { ⌜ cellsFor Method.Tail m ≤ length (now cells) ⌝ }
+    requires { ⌜ scratchCells Method.Tail m ≤ length (now cells) ⌝ }
     ensures { λ _. ⌜ Prepared Method.Tail (patternOf (now (pattern .entry)) m) (now (cells .entry)) (now (cells .exit)) ⌝ }
 {
     let inside = ALL << (64 - m);

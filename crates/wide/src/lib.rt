@@ -17,7 +17,8 @@ ghost use lib.ListN.{length};
 ghost use Rattle.bits.specs.Packed.{bytesFor};
 ghost use Rattle.rules.specs.Occurrence.{places};
 ghost use Rattle.rules.specs.Step.{next};
-ghost use Rattle.matcher.specs.Tables.{cellsFor, Prepared};
+ghost use Rattle.rules.specs.Scratch.{scratchCells};
+ghost use Rattle.matcher.specs.Tables.{Prepared};
 ghost use Rattle.wide.specs.Flags.{StartsByte, Enters, Entered, Moves, within, second, Applies, Flagged, Scanned, Marked};
 ghost use Rattle.matcher.specs.Progress.{textOf, patternOf, HeadOf, GoodPattern, Ready, Stepped, Advanced};
 
@@ -75,7 +76,7 @@ fn enter(q: u32, k: usize, zero: u64, one: u64, y: u64, x: u64, cells: &mut [u64
 // The table, eight window bits at a time. The last ones, fewer than eight, lie after the pattern.
 pub fn prepare(pattern: &[u8], m: u32, cells: &mut [u64])
     requires { ⌜ GoodPattern Method.Wide (patternOf (now pattern) m) ⌝ }
-    requires { ⌜ cellsFor Method.Wide m ≤ length (now cells) ⌝ }
+    requires { ⌜ scratchCells Method.Wide m ≤ length (now cells) ⌝ }
     ensures { λ _. ⌜ Prepared Method.Wide (patternOf (now (pattern .entry)) m) (now (cells .entry)) (now (cells .exit)) ⌝ }
 {
     let mut zero = ALL;

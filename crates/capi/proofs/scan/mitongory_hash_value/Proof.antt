@@ -1,7 +1,7 @@
 -- `capi::scan::mitongory_hash_value` meets its contract: few answer cells refuse, else the answer is that of `search::hash_value::hash_value`.
 -- Assumes nothing.
 use mathlib.Core.Path.{refl, ap}
-use Rattle.capi.specs.Scan.{hashTells, hashTold}
+use Rattle.capi.specs.Scan.{numberTells, hashTold}
 use Rattle.capi.proofs.Calling.{none-told, refusal-told, number-told}
 use borrow.Author.Needs.{needs}
 use Rattle.capi.proofs.scan.mitongory_hash_value.Statement.{statement}
@@ -34,7 +34,7 @@ unfolding hashTold
 returns-2 c =
     let at = c .before .before .before .before in
     let told = rw (c .before .before .hash .given .1) at (at .hash-value .ensures) in
-    refusal-told (λ v. v) _ _ _ (at .before .if1 .left) (ap hashTells told) (c .number .ensures)
+    refusal-told (λ v. v) _ _ _ (at .before .if1 .left) (ap numberTells told) (c .number .ensures)
 
 same-length : tie.Need-same-length
 same-length c = search needs
@@ -44,7 +44,7 @@ unfolding hashTold
 returns-3 c =
     let at = c .before .before .before .before .before .before .before in
     let told = rw (c .before .before .before .before .before .hash2 .given .1) at (at .hash-value .ensures) in
-    number-told (λ v. v) _ _ _ (at .before .if1 .left) (ap hashTells told) (c .before .before .one .ensures)
+    number-told (λ v. v) _ _ _ (at .before .if1 .left) (ap numberTells told) (c .before .before .one .ensures)
 
 pub mitongory-hash-value-spec : {M : Type 1} → statement M
 mitongory-hash-value-spec =

@@ -5,6 +5,7 @@ use Prim.Native.Nat.{ℕ, _≤_}
 use native.Mathlib.Omega.{arith}
 use lib.ListN.{length, replicate}
 use borrow.Author.Needs.{needs}
+use Rattle.rules.proofs.Scratch.{enough}
 use Rattle.lines.proofs.Putting.{puts-as}
 use Rattle.hits.proofs.Enough.{cells, holds, held}
 use Rattle.hits.proofs.Answers.{Call, refused-printed, accepted-printed, fits}
@@ -39,13 +40,14 @@ same-length : tie.Need-same-length
 same-length c = search needs
 
 -- what the search promised
-made : (c : tie.After-search) → (let a = c .before .before .before .before .before .before .before .args in Call (record { bytes = a .text .now; count = a .n }) (record { bytes = a .pattern .now; count = a .m }) (a .method) (replicate 4096 0) (replicate 4224 0) (c .search .result) (c .search .last .1 .1 .1 .1 .1 .1 .1 .0) (c .search .last .1 .1 .1 .1 .1 .1 .1 .1 .0))
+made : (c : tie.After-search) → (let a = c .before .before .before .before .before .before .before .args in Call (record { bytes = a .text .now; count = a .n }) (record { bytes = a .pattern .now; count = a .m }) (a .method) (replicate 4096 0) (replicate 4222 0) (c .search .result) (c .search .last .1 .1 .1 .1 .1 .1 .1 .0) (c .search .last .1 .1 .1 .1 .1 .1 .1 .1 .0))
 made c =
+    let start = c .before .before .before .before .before .before .before in
     record {
       mark = _;
       fresh = c .before .before .before .new .ensures;
       cells = holds _ 4096 (search needs);
-      room = holds _ 4224 (omega arith);
+      room = holds _ 4222 (enough (start .args .method) (start .args .m) (start .pre .1));
       promise = c .search .ensures;
     }
 

@@ -10,7 +10,7 @@ use borrow.Author.Tests.{eq-eqb}
 use Rattle.rules.specs.Occurrence.{places}
 use Rattle.rules.specs.Machine.{stopped}
 use Rattle.matcher.specs.Progress.{textOf, patternOf}
-use Rattle.search.proofs.Accepting.{tables-fit, few-hits, leaves-none, leaves-run}
+use Rattle.search.proofs.Accepting.{few-hits, leaves-none, leaves-run}
 use borrow.Author.Needs.{needs}
 use Rattle.search.proofs.call.accepted.Statement.{statement}
 use Rattle.search.proofs.call.accepted.Tie as tie
@@ -30,10 +30,7 @@ returns c =
 prepare-requires : tie.Need-prepare-requires
 prepare-requires c κs =
     let s = c .before .before .before .before .before .before in
-    let a = s .args in
-    let text = textOf (now (a .text)) (a .n) in
-    let pattern = patternOf (now (a .pattern)) (a .m) in
-    (s .pre .pattern, omega (arith, tables-fit (a .method) pattern (s .pre .pattern), s .pre .room))
+    (s .pre .pattern, s .pre .room)
 
 head-of-requires : tie.Need-head-of-requires
 head-of-requires c κs = search needs
@@ -41,8 +38,6 @@ head-of-requires c κs = search needs
 run-requires : tie.Need-run-requires
 run-requires c κs =
     let s = c .before .before .before .before .before .before .before .before .before .before .before .before in
-    let a = s .args in
-    let pattern = patternOf (now (a .pattern)) (a .m) in
     let made = c .before .before .before .before .before .prepare .ensures in (
       record {
         few-bits = s .pre .few-bits;
@@ -50,7 +45,7 @@ run-requires c κs =
         pattern = s .pre .pattern;
         inside = c .before .before .before .before .before .before .before .if1 .left;
         tables = made .tables;
-        room = omega (arith, made .size, tables-fit (a .method) pattern (s .pre .pattern), s .pre .room);
+        room = rw (made .size) (s .pre .room);
       },
       (c .before .before .head-of .ensures, s .pre .inside),
     )
@@ -81,7 +76,7 @@ returns-2 c =
     let pattern = patternOf (now (a .pattern)) (a .m) in
     let end : a .n - a .m + 1 ≡ places text pattern = omega (arith, c .before .before .before .before .before .before .before .before .before .before .before .if1 .left) in
     leaves-run (a .method) text pattern (a .mark .at .0) (a .budget) (now (a .list)) (now (a .scratch)) _ _ _ _ _ _ _
-    (c .before .before .before .run .ensures) (rw end at (c .answer .ensures)) (tables-fit (a .method) pattern (s .pre .pattern)) (c .before .before .before .before .before .before .before .before .before .prepare .ensures)
+    (c .before .before .before .run .ensures) (rw end at (c .answer .ensures)) (c .before .before .before .before .before .before .before .before .before .prepare .ensures)
 
 pub accepted-spec : {M : Type 1} → statement M
 accepted-spec =

@@ -69,23 +69,29 @@ returns-7 c =
     (sym (c .before .before .before .before .does-not-fit .ensures) ∙ c .before .before .before .if6 .left)
     (rw (c .before .before .places .ensures) at (c .if7 .taken))
 
+cast-scratch-cells : tie.Need-cast-scratch-cells
+cast-scratch-cells c = search needs
+
+scratch-cells-requires : tie.Need-scratch-cells-requires
+scratch-cells-requires c κs = search needs
+
 returns-8 : tie.Need-returns-8
 unfolding asked
 returns-8 c =
-    row-7 (asked (c .before .before .before .before .before .before .before .before .before .before .before .before .before .before .before .before))
-    (c .before .before .before .before .before .before .before .before .before .before .before .before .if1 .left) (rw (c .before .before .before .before .before .before .before .before .before .before .before .bytes-for .ensures) at (c .before .before .before .before .before .before .before .before .before .before .if2 .left)) (c .before .before .before .before .before .before .before .before .before .if3 .left) (c .before .before .before .before .before .before .before .before .if4 .left) (rw (c .before .before .before .before .before .before .before .bytes-for2 .ensures) at (c .before .before .before .before .before .before .if5 .left))
-    (sym (c .before .before .before .before .before .does-not-fit .ensures) ∙ c .before .before .before .before .if6 .left)
-    (rw (c .before .before .before .places .ensures) at (c .before .if7 .left))
-    (c .if8 .taken)
+    row-7 (asked (c .before .before .before .before .before .before .before .before .before .before .before .before .before .before .before .before .before))
+    (c .before .before .before .before .before .before .before .before .before .before .before .before .before .if1 .left) (rw (c .before .before .before .before .before .before .before .before .before .before .before .before .bytes-for .ensures) at (c .before .before .before .before .before .before .before .before .before .before .before .if2 .left)) (c .before .before .before .before .before .before .before .before .before .before .if3 .left) (c .before .before .before .before .before .before .before .before .before .if4 .left) (rw (c .before .before .before .before .before .before .before .before .bytes-for2 .ensures) at (c .before .before .before .before .before .before .before .if5 .left))
+    (sym (c .before .before .before .before .before .before .does-not-fit .ensures) ∙ c .before .before .before .before .before .if6 .left)
+    (rw (c .before .before .before .before .places .ensures) at (c .before .before .if7 .left))
+    (rw (c .before .scratch-cells .ensures) at (c .if8 .taken))
 
 returns-9 : tie.Need-returns-9
 unfolding asked
 returns-9 c =
-    no-row (asked (c .before .before .before .before .before .before .before .before .before .before .before .before .before .before .before .before))
-    (c .before .before .before .before .before .before .before .before .before .before .before .before .if1 .left) (rw (c .before .before .before .before .before .before .before .before .before .before .before .bytes-for .ensures) at (c .before .before .before .before .before .before .before .before .before .before .if2 .left)) (c .before .before .before .before .before .before .before .before .before .if3 .left) (c .before .before .before .before .before .before .before .before .if4 .left) (rw (c .before .before .before .before .before .before .before .bytes-for2 .ensures) at (c .before .before .before .before .before .before .if5 .left))
-    (sym (c .before .before .before .before .before .does-not-fit .ensures) ∙ c .before .before .before .before .if6 .left)
-    (rw (c .before .before .before .places .ensures) at (c .before .if7 .left))
-    (c .if8 .left)
+    no-row (asked (c .before .before .before .before .before .before .before .before .before .before .before .before .before .before .before .before .before))
+    (c .before .before .before .before .before .before .before .before .before .before .before .before .before .if1 .left) (rw (c .before .before .before .before .before .before .before .before .before .before .before .before .bytes-for .ensures) at (c .before .before .before .before .before .before .before .before .before .before .before .if2 .left)) (c .before .before .before .before .before .before .before .before .before .before .if3 .left) (c .before .before .before .before .before .before .before .before .before .if4 .left) (rw (c .before .before .before .before .before .before .before .before .bytes-for2 .ensures) at (c .before .before .before .before .before .before .before .if5 .left))
+    (sym (c .before .before .before .before .before .before .does-not-fit .ensures) ∙ c .before .before .before .before .before .if6 .left)
+    (rw (c .before .before .before .before .places .ensures) at (c .before .before .if7 .left))
+    (rw (c .before .scratch-cells .ensures) at (c .if8 .left))
 
 pub check-spec : {M : Type 1} → statement M
 check-spec =
@@ -103,5 +109,7 @@ check-spec =
     places-requires
     cast-if7
     returns-7
+    cast-scratch-cells
+    scratch-cells-requires
     returns-8
     returns-9)
