@@ -74,21 +74,21 @@ extern "C" {
 
 /* The version of this header. */
 #define MITONGORY_VERSION_MAJOR 0
-#define MITONGORY_VERSION_MINOR 4
+#define MITONGORY_VERSION_MINOR 5
 #define MITONGORY_VERSION_PATCH 0
 #define MITONGORY_VERSION_NUMBER \
     (MITONGORY_VERSION_MAJOR * 10000 + MITONGORY_VERSION_MINOR * 100 + MITONGORY_VERSION_PATCH)
-#define MITONGORY_VERSION "0.4.0"
+#define MITONGORY_VERSION "0.5.0"
 
 /*
  * The version of the library, as a number. The name holds the version of the interface, so that a program that was
  * compiled for one interface links with no other.
  */
-uint32_t mitongory_version_0_4(void);
+uint32_t mitongory_version_0_5(void);
 
 static inline uint32_t mitongory_version(void)
 {
-    return mitongory_version_0_4();
+    return mitongory_version_0_5();
 }
 
 #ifdef __GNUC__
@@ -96,11 +96,14 @@ static inline uint32_t mitongory_version(void)
  * Every program refers to the function, also one that never asks for the version. (A linker that is told to drop unused
  * data, by --gc-sections, drops this reference too.)
  */
-static uint32_t (*const mitongory_version_needed)(void) __attribute__((used)) = mitongory_version_0_4;
+static uint32_t (*const mitongory_version_needed)(void) __attribute__((used)) = mitongory_version_0_5;
 #endif
 
-/* The cells that a search needs in `scratch`, and in `answer`. */
-#define MITONGORY_SCRATCH_CELLS 4224
+/*
+ * The cells in `scratch` that are enough for a search by every method, whatever the pattern: the largest figure that
+ * mitongory_scratch_cells tells. And the cells that a search needs in `answer`.
+ */
+#define MITONGORY_SCRATCH_CELLS 4222
 #define MITONGORY_ANSWER_CELLS 4
 
 /*
@@ -119,7 +122,7 @@ enum mitongory_result {
     MITONGORY_PATTERN_BYTES_MISSING = 4, /* fewer pattern bytes than m bits take */
     MITONGORY_PATTERN_UNFIT = 5,         /* m below 8 for hash and H, below 15 for skip, above 64 for tail */
     MITONGORY_BEYOND_END = 6,            /* mark above the number of places; place + 8 above n */
-    MITONGORY_SCRATCH_TOO_SHORT = 7,     /* fewer than MITONGORY_SCRATCH_CELLS cells */
+    MITONGORY_SCRATCH_TOO_SHORT = 7,     /* fewer cells than the method takes for m, see mitongory_scratch_cells */
     MITONGORY_LIST_NOT_RISING = 8,       /* a list of positions that does not rise strictly, or holds 2^30 or more */
     MITONGORY_TARGET_TOO_SHORT = 9,      /* fewer target bytes than the list's file has; fewer than three report cells a sheet */
     MITONGORY_FILE_ENDS_EARLY = 10,      /* the file ends early */
@@ -146,7 +149,7 @@ static inline const char *mitongory_result_text(uint32_t result)
         return "The pattern's length does not fit the method: hash and H need 8 bits or more, skip 15 or more, "
                "tail 64 or fewer.";
     case MITONGORY_BEYOND_END: return "The mark is above the number of places, or there are fewer than eight bits from the place on.";
-    case MITONGORY_SCRATCH_TOO_SHORT: return "The scratch has fewer than 4224 cells.";
+    case MITONGORY_SCRATCH_TOO_SHORT: return "The scratch has fewer cells than the method takes for the pattern.";
     case MITONGORY_LIST_NOT_RISING: return "A list of positions does not rise strictly, or holds 2^30 or more.";
     case MITONGORY_TARGET_TOO_SHORT:
         return "The target has fewer bytes than the list's file, or the report fewer than three cells for each sheet.";
@@ -210,8 +213,9 @@ enum mitongory_marks {
  *   text, pattern   packed bits; there may be more bytes than the bit counts need, and what is in them never matters
  *   method          one of enum mitongory_method
  *   list            any length; the places go to its front, and the other cells stay
- *   scratch         at least MITONGORY_SCRATCH_CELLS cells with any content; after an accepted call the first
- *                   MITONGORY_SCRATCH_CELLS hold nothing of use, and the others stay
+ *   scratch         with any content, at least the cells that the method takes for m (mitongory_scratch_cells), for which
+ *                   MITONGORY_SCRATCH_CELLS are always enough; after an accepted call those cells hold nothing of use,
+ *                   and the others stay; more cells than needed change nothing else
  *   answer          at least MITONGORY_ANSWER_CELLS cells: steps, occurrences, mark, stop
  *
  * Returns 0, or the first of 100, 101, 1, 2, 3, 4, 5, 6, 7 that applies.
@@ -222,6 +226,22 @@ uint32_t mitongory_search(const uint8_t *text, size_t text_len, uint64_t n,
                           uint32_t *list, size_t list_len,
                           uint64_t *scratch, size_t scratch_len,
                           uint64_t *answer, size_t answer_len);
+
+/*
+ * How many cells of scratch a search by the method takes for a pattern of m bits. answer[0] is that figure:
+ *
+ *   plain   16 * ceil((m + 7) / 8)
+ *   hash    256
+ *   skip    256 + m
+ *   wide    2 * (63 + m)
+ *   tail    2
+ *
+ * A search with the same method and m is never refused with 7 where `scratch` has so many cells or more, and never
+ * accepted where it has fewer.
+ *
+ * Returns 0, or the first of 100, 101, 3, 5 that applies.
+ */
+uint32_t mitongory_scratch_cells(uint32_t method, uint64_t m, uint64_t *answer, size_t answer_len);
 
 /*
  * The hash method's H(B) of the first m bits of `pattern` for an eight-bit value B: the least d from 0 to m such that bit

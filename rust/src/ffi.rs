@@ -18,7 +18,7 @@ pub const ANSWER_CELLS_MISSING: u32 = 101;
 // tests/library/boundary.rs tests them.
 mod raw {
     extern "C" {
-        pub(super) fn mitongory_version_0_4() -> u32;
+        pub(super) fn mitongory_version_0_5() -> u32;
         pub(super) fn mitongory_search(
             text: *const u8,
             text_len: usize,
@@ -36,6 +36,7 @@ mod raw {
             answer: *mut u64,
             answer_len: usize,
         ) -> u32;
+        pub(super) fn mitongory_scratch_cells(method: u32, m: u64, answer: *mut u64, answer_len: usize) -> u32;
         pub(super) fn mitongory_hash_value(
             pattern: *const u8,
             pattern_len: usize,
@@ -91,13 +92,13 @@ mod raw {
 
 // Kept in every program, used or not, so that the linker refuses an archive of another version.
 #[used]
-static VERSION: unsafe extern "C" fn() -> u32 = raw::mitongory_version_0_4;
+static VERSION: unsafe extern "C" fn() -> u32 = raw::mitongory_version_0_5;
 
 /// The archive's version, as major * 10,000 + minor * 100 + patch.
 #[must_use]
 pub fn version() -> u32 {
     // SAFETY: the function takes nothing and returns a number.
-    unsafe { raw::mitongory_version_0_4() }
+    unsafe { raw::mitongory_version_0_5() }
 }
 
 /// A search call. Method 0 is plain, 1 hash, 2 skip, 3 wide, 4 tail; the answer's four cells are steps, occurrences,
@@ -134,6 +135,12 @@ pub fn search(
             answer.len(),
         )
     }
+}
+
+/// How many cells of scratch a method takes for a pattern of m bits, in the answer's first cell.
+pub fn scratch_cells(method: u32, m: u64, answer: &mut [u64]) -> u32 {
+    // SAFETY: the pointer and the length come from one live `&mut` slice.
+    unsafe { raw::mitongory_scratch_cells(method, m, answer.as_mut_ptr(), answer.len()) }
 }
 
 /// H of a value for a pattern, in the answer's first cell.

@@ -1,4 +1,6 @@
 //! The five methods of searching. They find the same occurrences and differ in their steps.
+use crate::refusal::Refusal;
+use crate::{call, ffi};
 use std::error::Error;
 use std::fmt;
 use std::str::FromStr;
@@ -78,6 +80,29 @@ impl Method {
             Method::Wide => "wide",
             Method::Tail => "tail",
         }
+    }
+
+    /// How many 64-bit cells of scratch the method takes for a pattern of so many bits, whatever bits they are. With `m`
+    /// for `bit_count`, plain takes 16 for each of the bytes that `m + 7` bits take, hash 256, skip `256 + m`, wide
+    /// `2 * (63 + m)`, and tail 2. No figure is above [`SCRATCH_CELLS`](crate::SCRATCH_CELLS).
+    ///
+    /// ```
+    /// use mitongory::{Method, Refusal};
+    ///
+    /// assert_eq!(Method::Plain.scratch_cells(48), Ok(112));
+    /// assert_eq!(Method::Hash.scratch_cells(48), Ok(256));
+    /// assert_eq!(Method::Skip.scratch_cells(48), Ok(304));
+    /// assert_eq!(Method::Wide.scratch_cells(48), Ok(222));
+    /// assert_eq!(Method::Tail.scratch_cells(48), Ok(2));
+    /// assert_eq!(Method::Tail.scratch_cells(65), Err(Refusal::PatternUnfit));
+    /// ```
+    ///
+    /// # Errors
+    ///
+    /// [`Refusal::PatternLength`] for no bit or more than 2,048, [`Refusal::PatternUnfit`] for a length that the method
+    /// does not take.
+    pub fn scratch_cells(self, bit_count: u64) -> Result<usize, Refusal> {
+        call::answer(|cell| ffi::scratch_cells(self.number(), bit_count, cell))
     }
 
     /// The library's number for it.

@@ -110,7 +110,7 @@ impl<'a> Occurrences<'a> {
         method: Method,
         mark: Mark,
     ) -> Result<Occurrences<'a>, Refusal> {
-        let mut scratch = Scratch::new();
+        let mut scratch = Scratch::for_search(method, pattern)?;
         // A call with no budget makes no step, but judges every refusal.
         let answer = search(text, pattern, method, mark, 0, &mut [], &mut scratch)?;
         Ok(Occurrences {

@@ -30,7 +30,8 @@ pub enum Refusal {
     PatternUnfit = 5,
     /// The mark is above the number of places; for eight bits, there are fewer from the place on.
     BeyondEnd = 6,
-    /// The scratch has fewer than 4,224 cells. A [`Scratch`](crate::Scratch) never has.
+    /// The scratch has fewer cells than the method takes for the pattern. One of
+    /// [`Scratch::new`](crate::Scratch::new) never has.
     ScratchTooShort = 7,
     /// A list of positions, such as a key or a sheet, does not rise strictly, or holds 2^30 or more.
     ListNotRising = 8,
@@ -119,7 +120,7 @@ impl fmt::Display for Refusal {
             Refusal::BeyondEnd => {
                 "the mark is above the number of places, or there are fewer than eight bits from the place on"
             }
-            Refusal::ScratchTooShort => "the scratch has fewer than 4,224 cells",
+            Refusal::ScratchTooShort => "the scratch has fewer cells than the method takes for the pattern",
             Refusal::ListNotRising => "a list of positions does not rise strictly below 2^30",
             Refusal::TargetTooShort => {
                 "the target has fewer bytes than the list's file, or the report fewer than three cells for each sheet"

@@ -6,8 +6,9 @@ use crate::text::Text;
 use crate::{call, ffi};
 use std::fmt;
 
-/// How many 64-bit cells a call's tables need.
-pub const SCRATCH_CELLS: usize = 4224;
+/// How many 64-bit cells are enough for the tables of any call: the largest figure of
+/// [`Method::scratch_cells`](crate::Method::scratch_cells).
+pub const SCRATCH_CELLS: usize = 4222;
 
 /// The first place that is not yet decided.
 ///
@@ -69,22 +70,66 @@ pub struct Answer {
     pub stop: Stop,
 }
 
-/// The cells for the tables that a call makes. Any content will do, so one scratch serves every call.
+/// The cells for the tables that a call makes. Any content will do, so one scratch serves many calls: [`new`](Scratch::new)
+/// makes one for every method and every pattern, and [`for_search`](Scratch::for_search) one that is no larger than a
+/// method needs for a pattern. What a call answers does not depend on the scratch, if it has enough cells.
 #[derive(Clone)]
 pub struct Scratch {
     cells: Vec<u64>,
 }
 
 impl Scratch {
-    /// A scratch of [`SCRATCH_CELLS`] cells.
+    /// A scratch for every method and every pattern: [`SCRATCH_CELLS`] cells.
     ///
     /// ```
-    /// let scratch = mitongory::Scratch::new();
-    /// # drop(scratch);
+    /// assert_eq!(mitongory::Scratch::new().cell_count(), mitongory::SCRATCH_CELLS);
     /// ```
     #[must_use]
     pub fn new() -> Scratch {
         Scratch { cells: vec![0; SCRATCH_CELLS] }
+    }
+
+    /// A scratch of just the cells that the method takes for the pattern
+    /// ([`Method::scratch_cells`](crate::Method::scratch_cells)). It serves every search for which they are enough, and
+    /// any other is refused.
+    ///
+    /// ```
+    /// use mitongory::{search, Mark, Method, Pattern, Refusal, Scratch, Text};
+    ///
+    /// # fn main() -> Result<(), Refusal> {
+    /// let (text, pattern) = (Text::from_bytes(b"a bit, and a bit more")?, Pattern::from_bytes(b"bit")?);
+    /// let mut scratch = Scratch::for_search(Method::Hash, pattern)?;
+    /// assert_eq!(scratch.cell_count(), 256);
+    ///
+    /// let (mut list, all) = ([0; 8], u32::MAX);
+    /// let answer = search(text, pattern, Method::Hash, Mark::START, all, &mut list, &mut scratch)?;
+    /// assert_eq!(list[..answer.occurrences], [2 * 8, 13 * 8]);
+    ///
+    /// // Skip takes 256 + 24 cells for the pattern's 24 bits.
+    /// let refused = search(text, pattern, Method::Skip, Mark::START, all, &mut list, &mut scratch);
+    /// assert_eq!(refused, Err(Refusal::ScratchTooShort));
+    /// # Ok(())
+    /// # }
+    /// ```
+    ///
+    /// # Errors
+    ///
+    /// [`Refusal::PatternUnfit`] for a pattern that the method does not take.
+    pub fn for_search(method: Method, pattern: Pattern<'_>) -> Result<Scratch, Refusal> {
+        Ok(Scratch { cells: vec![0; method.scratch_cells(pattern.bit_count())?] })
+    }
+
+    /// How many cells it has.
+    ///
+    /// ```
+    /// use mitongory::{Method, Pattern, Scratch};
+    ///
+    /// let pattern = Pattern::new(&[0xe0], 3).unwrap();
+    /// assert_eq!(Scratch::for_search(Method::Plain, pattern).unwrap().cell_count(), 32);
+    /// ```
+    #[must_use]
+    pub fn cell_count(&self) -> usize {
+        self.cells.len()
     }
 }
 
@@ -149,7 +194,7 @@ impl fmt::Debug for Scratch {
 ///
 /// [`Refusal::PatternUnfit`] for a pattern that the method does not take, [`Refusal::BeyondEnd`] for a mark above the
 /// number of places, which is `n - m + 1` for `n` bits of text and `m` of pattern, or 0 for a pattern longer than the
-/// text.
+/// text; [`Refusal::ScratchTooShort`] for a scratch that was made for another search and has too few cells.
 pub fn search(
     text: Text<'_>,
     pattern: Pattern<'_>,

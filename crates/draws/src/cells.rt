@@ -51,11 +51,10 @@ pub fn fill32(s: &mut [u32], x: usize) {
     }
 }
 
-// The first `count` cells, or all.
-pub fn fill64(s: &mut [u64], count: usize, x: usize) {
-    let end = least_of(count, s.len());
-    let mut i: usize = 0;
-    while i < end {
+// The cells from `from` on.
+pub fn fill64(s: &mut [u64], from: usize, x: usize) {
+    let mut i = from;
+    while i < s.len() {
         s[i] = content(x, i) as u64;
         i += 1;
     }

@@ -4,6 +4,7 @@ use crate::naive::Run;
 use bits::Place;
 use draws::cells;
 use draws::number::least_of;
+use draws::number::plus;
 use draws::number::small;
 use draws::packed::TEXT;
 use draws::packed::part;
@@ -15,8 +16,11 @@ use search::Stop;
 // Every step that there is.
 pub(crate) const ALL: usize = 4294967295;
 
-// The cells of scratch that there are: a call is lent 4,224, or some more, or too few.
-pub(crate) const SCRATCH: usize = 4230;
+// The cells of scratch that there are. A call is lent a run of them, as many as its method takes, or some more, or too few; so
+// many before it are lent to none.
+pub(crate) const SCRATCH: usize = 4233;
+
+pub(crate) const GUARD: usize = 5;
 
 // What a call is given: n bits of text in `text` bytes, m bits of pattern in `pattern` bytes, the method by its number, mark
 // and budget, and how many cells of the list and of the scratch are lent.
@@ -32,7 +36,7 @@ pub(crate) struct Call {
     pub scratch: usize,
 }
 
-fn method_of(way: usize) -> Method {
+pub(crate) fn method_of(way: usize) -> Method {
     match way {
         0 => Method::Plain,
         1 => Method::Hash,
@@ -45,7 +49,8 @@ fn method_of(way: usize) -> Method {
 // The search's call.
 fn made(c: Call, s: &[u8], list: &mut [u32], scratch: &mut [u64]) -> Outcome {
     let room = least_of(c.room, list.len());
-    let k = least_of(c.scratch, scratch.len());
+    let end = least_of(plus(GUARD, c.scratch), scratch.len());
+    let start = least_of(GUARD, end);
     let at = Mark {
         at: Place(small(c.mark)),
     };
@@ -57,7 +62,7 @@ fn made(c: Call, s: &[u8], list: &mut [u32], scratch: &mut [u64]) -> Outcome {
         method_of(c.way),
         small(c.budget),
         &mut list[0..room],
-        &mut scratch[0..k],
+        &mut scratch[start..end],
     )
 }
 
@@ -88,17 +93,23 @@ fn told(outcome: Outcome, want: Run) -> bool {
 }
 
 // What a call is to come to, and whether it did. The cells of the list that are not written stay; so do those of the
-// scratch after the first 4,224, and all of it where the call is refused.
+// scratch before the run that is lent, and those from the method's figure on, and all of it where the call is refused.
 fn verdict(c: Call, x: usize, outcome: Outcome, s: &[u8], list: &[u32], scratch: &[u64]) -> Run {
     let mut run = naive::search(c, s, list);
-    let free = if 0 < run.refusal { 0 } else { 4224 };
+    let free = if 0 < run.refusal {
+        0
+    } else {
+        naive::figure(c.way, c.m)
+    };
     let good = run.good & told(outcome, run);
-    run.good = good & cells::stay32(list, run.hits, x) & cells::stay64(scratch, free, x);
+    run.good = good
+        & cells::stay32(list, run.hits, x)
+        & cells::stay64(cells::part64(scratch, GUARD), 0, x)
+        & cells::stay64(scratch, plus(GUARD, free), x);
     run
 }
 
-// The call of both, on a list of known content. The scratch has one after its first 4,224 cells, and in all of them where
-// the call is to be refused.
+// The call of both, on a list of known content. The scratch has one too, but for the cells that the call may use.
 pub(crate) fn judged(
     c: Call,
     x: usize,
@@ -114,6 +125,6 @@ pub(crate) fn judged(
 // A single call.
 pub(crate) fn single(c: Call, x: usize, s: &[u8], list: &mut [u32]) -> Run {
     let mut scratch = [0u64; SCRATCH];
-    cells::fill64(&mut scratch, SCRATCH, x);
+    cells::fill64(&mut scratch, 0, x);
     judged(c, x, s, list, &mut scratch)
 }

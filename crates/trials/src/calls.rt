@@ -1,6 +1,7 @@
 // Lists of calls from mark to mark, refused ones too, and the one claim about the whole list (demand 3).
 use crate::call::ALL;
 use crate::call::Call;
+use crate::call::GUARD;
 use crate::call::SCRATCH;
 use crate::call::judged;
 use crate::naive;
@@ -9,6 +10,7 @@ use draws::cells;
 use draws::draw::choose;
 use draws::draw::draw;
 use draws::number::least_of;
+use draws::number::minus;
 use draws::number::plus;
 
 // Budgets of every class, out of 12: none, every step, some, and very few, so that a list of calls goes far.
@@ -16,9 +18,6 @@ const BUDGETS: [usize; 10] = [0, 1, ALL, 1, 0, 60, 0, 60, 1, 3];
 
 // Cells of the list of every class, out of 8: none, one, more than there are places, and a few.
 const ROOMS: [usize; 8] = [0, 1, 1, 1, 2050, 20, 0, 20];
-
-// Cells of the scratch of every class, out of 16: too few, one too few, just enough, and enough.
-const SCRATCHES: [usize; 8] = [0, 4224, 4223, 1, 4224, 1, 4224, 7];
 
 // The method of a call on a pattern of m bits. One that does not take the pattern stays, and is refused, once in four draws;
 // else the call is a plain or a wide one.
@@ -31,6 +30,17 @@ fn drawn_way(m: usize, x: usize, d: usize) -> usize {
     }
 }
 
+// Cells of the scratch, of which the method takes k, of every class, out of 16: too few, one too few, just enough, and enough.
+fn drawn_scratch(k: usize, x: usize, d: usize) -> usize {
+    let class = draw(x, d, 16);
+    match class {
+        0 => draw(x, plus(d, 1), k),
+        1 => minus(k, 1),
+        2 => k,
+        _ => plus(k, draw(x, plus(d, 1), 7)),
+    }
+}
+
 // The next call of a list, of which so many are left, has a method, a budget, cells and a scratch of its own, each from a
 // draw of its own: a call has 16 of them.
 fn next_call(c: Call, x: usize, left: usize) -> Call {
@@ -39,7 +49,7 @@ fn next_call(c: Call, x: usize, left: usize) -> Call {
     call.way = drawn_way(c.m, x, d);
     call.budget = choose(&BUDGETS, draw(x, d + 3, 12), x, d + 4);
     call.room = choose(&ROOMS, draw(x, d + 5, 8), x, d + 6);
-    call.scratch = choose(&SCRATCHES, draw(x, d + 7, 16), x, d + 8);
+    call.scratch = drawn_scratch(naive::figure(call.way, c.m), x, d + 7);
     call
 }
 
@@ -77,6 +87,7 @@ fn claimed(first: Call, t: Total, s: &[u8], list: &[u32]) -> bool {
     c.way = 0;
     c.budget = t.mark;
     c.room = t.hits;
+    c.scratch = SCRATCH;
     let all = naive::search(c, s, list);
     let over = first.n < plus(t.mark, first.m);
     t.good
@@ -87,18 +98,22 @@ fn claimed(first: Call, t: Total, s: &[u8], list: &[u32]) -> bool {
         & (t.steps <= t.mark)
 }
 
-// A call that is to be refused finds a scratch of known content in all cells; another one finds, in the first 4,224, what
-// the calls before it left.
+// A call that is to be refused finds a scratch of known content in all cells; another one finds, in those that it may use,
+// what the calls before it left.
 fn refill(c: Call, x: usize, scratch: &mut [u64; SCRATCH]) {
-    let count = if 0 < naive::refusal(c) { SCRATCH } else { 0 };
-    cells::fill64(scratch, count, x);
+    let used = if 0 < naive::refusal(c) {
+        0
+    } else {
+        naive::figure(c.way, c.m)
+    };
+    cells::fill64(scratch, plus(GUARD, used), x);
 }
 
 // Twelve calls from mark to mark, with one scratch. Each is lent the cells after what the calls before it wrote, so that
 // the list holds all of it, joined.
 pub(crate) fn joined(first: Call, x: usize, s: &[u8], list: &mut [u32]) -> bool {
     let mut scratch = [0u64; SCRATCH];
-    cells::fill64(&mut scratch, SCRATCH, x);
+    cells::fill64(&mut scratch, 0, x);
     let mut c = first;
     let mut t = Total {
         hits: 0,

@@ -5,6 +5,7 @@ use crate::call::Call;
 use crate::call::single;
 use crate::calls::joined;
 use crate::naive;
+use crate::single::cells_told;
 use draws::draw::choose;
 use draws::draw::draw;
 use draws::draw::entry;
@@ -143,7 +144,7 @@ fn whole(way: usize, x: usize, s: &mut [u8]) -> Call {
         mark: 0,
         budget: ALL,
         room: plus(naive::places(n, m), draw(x, 13, 3)),
-        scratch: plus(4224, draw(x, 14, 7)),
+        scratch: plus(naive::figure(way, m), draw(x, 14, 7)),
     }
 }
 
@@ -185,20 +186,49 @@ pub(crate) const ROWS: usize = 48000;
 fn row(edges: &[usize], i: usize) -> Call {
     let n = entry(edges, i % 5);
     let m = entry(edges, 5 + i / 5 % 12);
+    let way = i / 1200 % 5;
     Call {
         n: n,
         text: i / 60 % 4,
         m: m,
         pattern: entry(edges, 17 + i / 240 % 5),
-        way: i / 1200 % 5,
+        way: way,
         mark: minus(
             plus(naive::places(n, m), entry(edges, 22 + i / 6000 % 4)),
             1,
         ),
         budget: ALL,
         room: 20,
-        scratch: 4224 - i / 24000 % 2,
+        scratch: minus(naive::figure(way, m), i / 24000 % 2),
     }
+}
+
+// Each method with each length of the pattern from 0 to 2,050, on a text that is up to 150 bits longer, with a scratch that is
+// just enough or one cell less: the case's number tells which.
+pub(crate) const LENGTHS: usize = 20510;
+
+fn length(i: usize, x: usize, s: &mut [u8]) -> Call {
+    let way = i % 5;
+    let m = i / 10 % 2051;
+    let n = plus(m, draw(x, 4, 150));
+    draw_bits(s, n, m, x);
+    Call {
+        n: n,
+        text: ceiling(n),
+        m: m,
+        pattern: ceiling(m),
+        way: way,
+        mark: 0,
+        budget: ALL,
+        room: naive::places(n, m),
+        scratch: minus(naive::figure(way, m), i / 5 % 2),
+    }
+}
+
+pub(crate) fn every_length(i: usize, x: usize, s: &mut [u8; 813], list: &mut [u32; 4400]) -> bool {
+    let c = length(i, x, s);
+    let run = single(c, x, s, list);
+    run.good & cells_told(c)
 }
 
 // A case over drawn buffers: kinds 0 to 4 are the methods whole, 5 is a list of calls, 6 a row of the refusals.

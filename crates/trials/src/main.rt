@@ -17,13 +17,14 @@ use draws::report;
 fn one(kind: usize, i: usize, x: usize) -> bool {
     let mut s = [0u8; 813];
     let mut list = [0u32; 4400];
-    if kind == 9 {
+    if kind == 10 {
         return named::one(i, x, &mut s, &mut list);
     }
     packed::fill(&mut s, x);
     match kind {
         7 => single::eight_bits(x, &mut s),
         8 => single::drawn_hash(x, &mut s),
+        9 => drawn::every_length(i, x, &mut s, &mut list),
         _ => drawn::one(kind, i, x, &mut s, &mut list),
     }
 }
@@ -44,7 +45,7 @@ fn many(names: &[u8], counts: &[usize], kind: usize) -> usize {
 }
 
 // The kinds: their names, and where each one's name ends and how many cases it has.
-const NAMES: [u8; 320] = *b"\
+const NAMES: [u8; 352] = *b"\
     plain, whole                    \
     hash, whole                     \
     skip, whole                     \
@@ -54,9 +55,10 @@ const NAMES: [u8; 320] = *b"\
     refusals and their neighbours   \
     eight bits                      \
     H                               \
+    each length, exact scratch      \
     named                           ";
 
-const COUNTS: [usize; 20] = [
+const COUNTS: [usize; 22] = [
     13,
     30000,
     12,
@@ -75,14 +77,16 @@ const COUNTS: [usize; 20] = [
     40000,
     2,
     40000,
+    27,
+    drawn::LENGTHS,
     6,
-    94,
+    105,
 ];
 
 fn main() {
     let mut wrong: usize = 0;
     let mut kind: usize = 0;
-    while kind < 10 {
+    while kind < 11 {
         wrong = number::plus(wrong, many(&NAMES, &COUNTS, kind));
         kind += 1;
     }

@@ -42,11 +42,23 @@ pub(crate) fn unfit(way: usize, m: usize) -> bool {
     (m < SHORTEST[way % 5]) | (LONGEST[way % 5] < m)
 }
 
+// How many cells of scratch a method takes for a pattern of m bits: a byte of a row to a cell, eight rows and their masks; an
+// entry for each value of a byte; these and a link for each index; two words for each bit of a window of 64 places; two words.
+pub(crate) fn figure(way: usize, m: usize) -> usize {
+    match way {
+        0 => ceiling(plus(m, 7)) % 65536 * 16,
+        1 => 256,
+        2 => plus(256, m),
+        3 => plus(63, m) % 65536 * 2,
+        _ => 2,
+    }
+}
+
 // The first row of the table of refusals whose condition holds, or 0. The rows are taken from the last one on, so that the
 // first one stays.
 pub(crate) fn refusal(c: Call) -> usize {
     let mut why: usize = 0;
-    if c.scratch < 4224 {
+    if c.scratch < figure(c.way, c.m) {
         why = 7;
     }
     if places(c.n, c.m) < c.mark {

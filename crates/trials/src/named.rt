@@ -1,6 +1,6 @@
 // Named cases: the course's papers, what students write, and the examples of rows 1 to 7 of the table of refusals, in
-// document 01; and by the rules of document 02 tail on the same pairs and one more, and the steps that a full list cuts. Each
-// is also compared with the naive side.
+// document 01; and by the rules of document 02 tail on the same pairs and one more, the steps that a full list cuts, and the
+// figures of the scratch. Each is also compared with the naive side.
 use crate::call;
 use crate::call::ALL;
 use crate::call::Call;
@@ -181,7 +181,7 @@ fn search(i: usize, x: usize, s: &mut [u8; 813], list: &mut [u32; 4400]) -> bool
         mark: 0,
         budget: r.2,
         room: r.3,
-        scratch: 4230,
+        scratch: call::SCRATCH,
     };
     let run = call::single(c, x, s, list);
     run.good
@@ -194,28 +194,40 @@ fn search(i: usize, x: usize, s: &mut [u8; 813], list: &mut [u32; 4400]) -> bool
 
 // The examples of rows 1 to 7, and what is accepted beside them: the number, n and the text's bytes, m and the pattern's
 // bytes, the method, the mark and the cells of the scratch.
-const REFUSALS: [Row; 16] = [
-    Row(1, 1073741825, 8, 10, 2, 0, 0, 4224),
-    Row(2, 1073741824, 8, 10, 2, 0, 0, 4224),
-    Row(2, 9, 1, 8, 1, 0, 0, 4224),
-    Row(3, 9, 2, 0, 1, 0, 0, 4224),
-    Row(4, 9, 2, 9, 1, 0, 0, 4224),
-    Row(5, 9, 2, 7, 1, 1, 0, 4224),
-    Row(6, 36, 5, 10, 2, 0, 28, 4224),
-    Row(7, 36, 5, 10, 2, 0, 27, 4223),
-    Row(0, 36, 5, 10, 2, 0, 27, 4224),
-    Row(0, 9, 2, 2048, 256, 3, 0, 4224),
-    Row(0, 9, 2, 8, 1, 1, 0, 4224),
-    Row(0, 36, 5, 15, 2, 2, 0, 4224),
+const REFUSALS: [Row; 27] = [
+    Row(1, 1073741825, 8, 10, 2, 0, 0, 48),
+    Row(2, 1073741824, 8, 10, 2, 0, 0, 48),
+    Row(2, 9, 1, 8, 1, 0, 0, 32),
+    Row(3, 9, 2, 0, 1, 0, 0, 4222),
+    Row(4, 9, 2, 9, 1, 0, 0, 32),
+    Row(5, 9, 2, 7, 1, 1, 0, 256),
+    Row(6, 36, 5, 10, 2, 0, 28, 48),
+    Row(7, 36, 5, 10, 2, 0, 27, 47),
+    Row(0, 36, 5, 10, 2, 0, 27, 48),
+    Row(0, 9, 2, 2048, 256, 3, 0, 4222),
+    Row(0, 9, 2, 8, 1, 1, 0, 256),
+    Row(0, 36, 5, 15, 2, 2, 0, 271),
     // tail: a pattern of 65 bits, 4 before that, 5 before 6 and 7, and one of 64 bits
-    Row(5, 36, 5, 65, 9, 4, 0, 4224),
-    Row(4, 36, 5, 65, 8, 4, 0, 4224),
-    Row(5, 36, 5, 65, 9, 4, 1, 4223),
-    Row(0, 36, 5, 64, 8, 4, 0, 4224),
+    Row(5, 36, 5, 65, 9, 4, 0, 2),
+    Row(4, 36, 5, 65, 8, 4, 0, 2),
+    Row(5, 36, 5, 65, 9, 4, 1, 1),
+    Row(0, 36, 5, 64, 8, 4, 0, 2),
+    // a cell fewer than the figure, and plain with the bytes of the pattern for those of its longest row
+    Row(7, 36, 5, 10, 2, 0, 0, 32),
+    Row(0, 9, 2, 2, 1, 0, 0, 32),
+    Row(7, 9, 2, 2, 1, 0, 0, 31),
+    Row(0, 9, 2, 2048, 256, 0, 0, 4112),
+    Row(7, 9, 2, 2048, 256, 0, 0, 4111),
+    Row(7, 9, 2, 8, 1, 1, 0, 255),
+    Row(7, 36, 5, 15, 2, 2, 0, 270),
+    Row(0, 36, 5, 10, 2, 3, 0, 146),
+    Row(7, 36, 5, 10, 2, 3, 0, 145),
+    Row(7, 9, 2, 2048, 256, 3, 0, 4221),
+    Row(7, 36, 5, 64, 8, 4, 0, 1),
 ];
 
 fn of_refusal(i: usize) -> Row {
-    REFUSALS[i % 16]
+    REFUSALS[i % 27]
 }
 
 fn refusal(i: usize, x: usize, s: &[u8], list: &mut [u32]) -> bool {
@@ -250,8 +262,8 @@ pub(crate) fn one(i: usize, x: usize, s: &mut [u8; 813], list: &mut [u32; 4400])
     if i < 73 {
         return search(i, x, s, list);
     }
-    if i < 89 {
+    if i < 100 {
         return refusal(i, x, s, list);
     }
-    hash(i - 89, s)
+    hash(i - 100, s)
 }

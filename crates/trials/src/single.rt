@@ -1,6 +1,8 @@
-// Eight bits by themselves and H by itself, with their refusals. Both have the rows of the table that a search has, so
-// that the search's own check serves, of a call whose other conditions do not hold.
+// Eight bits, H and the cells of scratch by themselves, with their refusals. All have the rows of the table that a search has,
+// so that the search's own check serves, of a call whose other conditions do not hold.
+use crate::call;
 use crate::call::Call;
+use crate::call::SCRATCH;
 use crate::drawn::pattern_length;
 use crate::drawn::repeat;
 use crate::naive;
@@ -19,6 +21,8 @@ use draws::packed::TEXT;
 use draws::packed::TEXT_BIT;
 use search::hash_value;
 use search::hash_value::HashAnswer;
+use search::scratch_cells;
+use search::scratch_cells::CellsAnswer;
 
 // Bit counts about the greatest one, once in 50, or small.
 const COUNTS: [usize; 4] = [1073741820, 9, 0, 101];
@@ -34,7 +38,7 @@ fn eight_from(n: usize, a: usize, p: usize, s: &mut [u8; 813]) -> bool {
         mark: plus(p, 1),
         budget: 0,
         room: 0,
-        scratch: 4224,
+        scratch: SCRATCH,
     });
     let got = eight::eight_bits(packed::part(s, TEXT, a), n as u64, Place(small(p)));
     match got {
@@ -64,6 +68,26 @@ pub(crate) fn eight_bits(x: usize, s: &mut [u8; 813]) -> bool {
     eight_from(n, a, drawn_place(x, short), s)
 }
 
+// The cells of scratch that are told for the method and m, which are refused as a call with all its bytes is.
+pub(crate) fn cells_told(c: Call) -> bool {
+    let why = naive::refusal(Call {
+        n: 0,
+        text: 0,
+        m: c.m,
+        pattern: ceiling(c.m),
+        way: c.way,
+        mark: 0,
+        budget: 0,
+        room: 0,
+        scratch: SCRATCH,
+    });
+    let got = scratch_cells::scratch_cells(call::method_of(c.way), c.m as u64);
+    match got {
+        CellsAnswer::Cells(k) => (why == 0) & (k == naive::figure(c.way, c.m) as u64),
+        CellsAnswer::Refused(r) => r.number() == small(why),
+    }
+}
+
 // H of the m bits of a pattern in b bytes at the front, and the value at the text's.
 pub(crate) fn hash(s: &[u8], m: usize, b: usize) -> bool {
     let why = naive::refusal(Call {
@@ -75,7 +99,7 @@ pub(crate) fn hash(s: &[u8], m: usize, b: usize) -> bool {
         mark: 0,
         budget: 0,
         room: 0,
-        scratch: 4224,
+        scratch: SCRATCH,
     });
     let got = hash_value::hash_value(packed::part(s, 0, b), m as u64, packed::get8(s, TEXT));
     match got {

@@ -22,6 +22,7 @@ fn numbers_of_32_bits() {
     for bit in 3..32 {
         for method in 0..=7 {
             assert_eq!(search(&text, n, &[0x80], 1, [1 << bit | method, 0, 1], &mut []), (100, UNCHANGED));
+            assert_eq!(ffi::scratch_cells(1 << bit | method, 1, &mut [9]), 100);
         }
     }
     for method in 5..=7 {
@@ -55,6 +56,7 @@ fn counts_of_64_bits() {
         let more = 1u64 << bit;
         assert_eq!(search(&bytes, 16, &bytes, more | 8, [0, 0, ALL], &mut []), (3, UNCHANGED));
         assert_eq!(ffi::hash_value(&bytes, more | 8, 0, &mut [9]), 3);
+        assert_eq!(ffi::scratch_cells(0, more | 8, &mut [9]), 3);
     }
     for bit in 0..64 {
         assert_eq!(ffi::mark_sitting(&[], &[4, 5, 6], &[3 ^ 1 << bit], &mut [0; 3], &mut [9; 3]), 16);
@@ -105,11 +107,12 @@ fn lengths() {
         assert_eq!(ffi::list_write(&[], &mut [0], &mut cells), want);
         assert_eq!(ffi::list_read(&[0], &mut [], &mut cells), want);
         assert_eq!(ffi::hash_value(&[0], 8, 0, &mut cells), want);
+        assert_eq!(ffi::scratch_cells(0, 8, &mut cells), want);
         assert_eq!(ffi::eight_bits(&[0], 8, 0, &mut cells), want);
         let want = if answer < 3 { 101 } else { 0 };
         assert_eq!(ffi::mark_sitting(&[], &[], &[], &mut [], &mut cells), want);
         let want = if answer < 4 { 101 } else { 0 };
-        assert_eq!(ffi::search(&[], 0, &[0], 1, 0, 0, 0, &mut [], &mut [0; 4_224], &mut cells), want);
+        assert_eq!(ffi::search(&[], 0, &[0], 1, 0, 0, 0, &mut [], &mut [0; 16], &mut cells), want);
     }
 }
 
@@ -120,6 +123,9 @@ fn nothing_lent() {
     assert_eq!(ffi::search(&[], 0, &[], 0, 5, 0, 0, &mut [], &mut [], &mut []), 100);
     assert_eq!(ffi::search(&[], 0, &[], 0, 0, 0, 0, &mut [], &mut [], &mut [0; 4]), 3);
     assert_eq!(ffi::search(&[], 0, &[0], 1, 0, 0, 0, &mut [], &mut [], &mut [0; 4]), 7);
+    assert_eq!(ffi::scratch_cells(0, 0, &mut []), 101);
+    assert_eq!(ffi::scratch_cells(5, 0, &mut []), 100);
+    assert_eq!(ffi::scratch_cells(0, 0, &mut [0]), 3);
     assert_eq!(ffi::hash_value(&[], 0, 0, &mut []), 101);
     assert_eq!(ffi::hash_value(&[], 0, 0, &mut [0]), 3);
     assert_eq!(ffi::eight_bits(&[], 0, 0, &mut []), 101);

@@ -60,15 +60,24 @@ fn search_calls() {
         assert_eq!(number(longest, longest, method, 0), Ok(Stop::Full(0)));
         assert_eq!(number(longest, longest, method, 2), Err(6));
     }
-    // A scratch of another length than the crate's own needs the raw call.
-    let raw = |scratch: usize| {
+    // A scratch of any length needs the raw call. Ten bits: plain 48, hash 256, wide 146, tail 2.
+    let raw = |method, scratch: usize| {
         let mut cells = vec![0; scratch];
-        ffi::search(&[0; 5], 36, &[0; 2], 10, 0, 0, 1, &mut [], &mut cells, &mut [0; 4])
+        ffi::search(&[0; 5], 36, &[0; 2], 10, method, 0, 1, &mut [], &mut cells, &mut [0; 4])
     };
-    assert_eq!((raw(4_223), raw(0), raw(4_224), raw(5_000)), (7, 7, 0, 0));
+    for (method, figure) in [(0, 48), (1, 256), (3, 146), (4, 2)] {
+        let said = (raw(method, figure - 1), raw(method, 0), raw(method, figure), raw(method, 5_000));
+        assert_eq!(said, (7, 7, 0, 0));
+    }
+    // The crate's own, made for one search and used for another.
+    let (text, pattern) = (Text::new(&[0; 5], 36).unwrap(), Pattern::new(&[0; 2], 10).unwrap());
+    let mut scratch = Scratch::for_search(Method::Plain, pattern).unwrap();
+    let mut with = |method| search(text, pattern, method, Mark::START, 1, &mut [], &mut scratch).map(|a| a.stop);
+    assert_eq!((with(Method::Plain), with(Method::Tail)), (Ok(Stop::Full(0)), Ok(Stop::Full(0))));
+    assert_eq!(with(Method::Wide).unwrap_err(), Refusal::ScratchTooShort);
     // A pattern of 65 bits by tail: after its bytes, before the mark and the scratch.
     let raw = |m, bytes: usize, mark| {
-        ffi::search(&[0; 9], 72, &[0; 9][..bytes], m, 4, mark, 1, &mut [], &mut [0; 4_223], &mut [0; 4])
+        ffi::search(&[0; 9], 72, &[0; 9][..bytes], m, 4, mark, 1, &mut [], &mut [0; 1], &mut [0; 4])
     };
     assert_eq!((raw(65, 8, 99), raw(65, 9, 99), raw(65, 9, 0), raw(64, 9, 99), raw(64, 8, 0)), (4, 5, 5, 6, 7));
 }

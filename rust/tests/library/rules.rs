@@ -44,6 +44,17 @@ pub fn takes(method: u32, m: usize) -> bool {
     pattern_bits(method).contains(&m)
 }
 
+/// How many cells of scratch a method takes for a pattern of m bits.
+pub fn scratch_cells(method: u32, m: usize) -> usize {
+    match method {
+        PLAIN => 16 * (m + 7).div_ceil(8),
+        HASH => 256,
+        SKIP => 256 + m,
+        WIDE => 2 * (63 + m),
+        _ => 2,
+    }
+}
+
 /// The least d from `from` on at which the pattern agrees with eight bits that end its window.
 pub fn least_move(w: &[bool], eight: &[bool], from: usize) -> usize {
     let m = w.len() as isize;

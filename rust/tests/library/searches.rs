@@ -1,8 +1,8 @@
 //! Search calls against the rules: every answer, list, scratch and refusal.
 use crate::buffers::Lent;
 use crate::random::{Draw, Random};
-use crate::rules::{bits, takes, Pair, METHODS, PLAIN, TAIL, WIDE};
-use mitongory::{ffi, search, Bits, Mark, Method, Pattern, Scratch, Stop, Text, SCRATCH_CELLS};
+use crate::rules::{bits, scratch_cells, takes, Pair, METHODS, PLAIN, TAIL, WIDE};
+use mitongory::{ffi, search, Bits, Mark, Method, Pattern, Refusal, Scratch, Stop, Text, SCRATCH_CELLS};
 
 /// The buffers of many calls, and how many calls there were.
 struct Caller {
@@ -65,7 +65,7 @@ impl Caller {
         let right = said == 0
             && self.answer.begins_with(&want.cells())
             && self.list.begins_with(&want.written)
-            && self.scratch.unchanged_but(SCRATCH_CELLS);
+            && self.scratch.unchanged_but(scratch_cells(r.method, m));
         assert!(right, "n {n}, m {m}, {r:?}: said {said}, text {text:x?}, pattern {pattern:x?}, should be {want:?}");
     }
 
@@ -89,7 +89,8 @@ fn every_short_text() {
             for mark in 0..=pair.places() as u32 {
                 for (budget, cells) in [0, 1, 2, u32::MAX].into_iter().flat_map(|b| [0, 1, 2, 8].map(|c| (b, c))) {
                     for method in [PLAIN, WIDE, TAIL] {
-                        let r = Request { method, mark, budget, cells, scratch: SCRATCH_CELLS, answer: 4 };
+                        let scratch = scratch_cells(method, m);
+                        let r = Request { method, mark, budget, cells, scratch, answer: 4 };
                         caller.check(&text, &pattern, &pair, r);
                     }
                 }
@@ -153,7 +154,7 @@ fn request(random: &Random, pair: &Pair, method: u32, most: usize) -> Request {
         mark: random.below(pair.places() + 1) as u32,
         budget: random.one_of(&[0, 1, 2, 3, 7, 50, u32::MAX, u32::MAX]),
         cells: random.one_of(&[0, 1, 2, 5, most, most]),
-        scratch: SCRATCH_CELLS + random.one_of(&[0, 0, 1, 77]),
+        scratch: scratch_cells(method, pair.w.len()) + random.one_of(&[0, 0, 1, 77]),
         answer: 4 + random.below(3),
     }
 }
@@ -243,6 +244,44 @@ fn joined_lists() {
     assert!(calls > 30_000);
 }
 
+/// Every method with every length of the pattern: a scratch of just the cells that it takes is enough, one less is refused,
+/// and the crate's own scratch has just so many.
+#[test]
+fn every_length_with_its_scratch() {
+    let random = Random::of("every_length_with_its_scratch");
+    let mut caller = Caller::new(&random, 100);
+    let mut largest = 0;
+    for m in 1..=2_048 {
+        let n = m + random.below(60);
+        let x = drawn(&random, n, m);
+        let (text, pattern) = (Text::new(&x.text, n as u64).unwrap(), Pattern::new(&x.pattern, m as u64).unwrap());
+        caller.redraw(&random);
+        for &method in Method::ALL {
+            let (number, figure) = (method as u32, scratch_cells(method as u32, m));
+            let told = method.scratch_cells(m as u64);
+            let mut r = Request { method: number, mark: 0, budget: u32::MAX, cells: 100, scratch: figure, answer: 4 };
+            if !takes(number, m) {
+                assert_eq!(told, Err(Refusal::PatternUnfit));
+                assert_eq!(Scratch::for_search(method, pattern).unwrap_err(), Refusal::PatternUnfit);
+                caller.check_refused(&x.text, n as u64, &x.pattern, m as u64, r, 5);
+                continue;
+            }
+            assert_eq!(told, Ok(figure));
+            largest = largest.max(figure);
+            caller.check(&x.text, &x.pattern, &x.pair, r);
+            r.scratch -= 1;
+            caller.check_refused(&x.text, n as u64, &x.pattern, m as u64, r, 7);
+
+            let (mut list, mut scratch) = ([0; 100], Scratch::for_search(method, pattern).unwrap());
+            assert_eq!(scratch.cell_count(), figure);
+            let answer = search(text, pattern, method, Mark::START, u32::MAX, &mut list, &mut scratch).unwrap();
+            assert_eq!(list[..answer.occurrences], x.pair.occurrences());
+        }
+    }
+    println!("every_length_with_its_scratch: {} calls", caller.calls);
+    assert_eq!(largest, SCRATCH_CELLS);
+}
+
 /// The refusals 100, 101 and 1 to 7, first to last.
 fn refusal(text: &[u8], n: u64, pattern: &[u8], m: u64, r: Request) -> u32 {
     let places = if m <= n { n.wrapping_sub(m).wrapping_add(1) } else { 0 };
@@ -255,7 +294,7 @@ fn refusal(text: &[u8], n: u64, pattern: &[u8], m: u64, r: Request) -> u32 {
         (4, (pattern.len() as u64) < m.div_ceil(8)),
         (5, !takes(r.method, m as usize)),
         (6, u64::from(r.mark) > places),
-        (7, r.scratch < 4_224),
+        (7, r.scratch < scratch_cells(r.method, m as usize)),
     ];
     rows.into_iter().find(|&(_, holds)| holds).map_or(0, |(number, _)| number)
 }
@@ -286,12 +325,15 @@ fn refusals_in_order() {
         let pattern = &bytes[300 - enough(&random, m)..];
         let places = if m <= n { n.wrapping_sub(m).wrapping_add(1) } else { 0 };
         let near = places.wrapping_add(random.below(3) as u64).wrapping_sub(1) as u32;
+        let method =
+            random.one_of(&[0, 1, 2, 3, 4, 0, 1, 2, 3, 4, 0, 1, 2, 3, 4, 5, 256, 1 << 16, 1 << 31, u32::MAX]);
+        let figure = scratch_cells(method, m.min(2_048) as usize);
         let r = Request {
-            method: random.one_of(&[0, 1, 2, 3, 4, 0, 1, 2, 3, 4, 0, 1, 2, 3, 4, 5, 256, 1 << 16, 1 << 31, u32::MAX]),
+            method,
             mark: random.one_of(&[0, 0, near, near, 1 << random.below(32), u32::MAX]),
             budget: random.one_of(&[0, 1, u32::MAX]),
             cells: random.below(64),
-            scratch: random.one_of(&[0, 1, 4_223, 4_224, 4_224, 4_224, 4_224, 4_225]),
+            scratch: random.one_of(&[0, 1, figure - 1, figure, figure, figure, figure, figure + 1]),
             answer: random.one_of(&[0, 1, 2, 3, 4, 4, 4, 4, 4, 4, 4, 4, 4, 4, 5]),
         };
         let want = refusal(text, n, pattern, m, r);

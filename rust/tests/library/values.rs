@@ -1,7 +1,7 @@
-//! The calls for eight bits and for H against their rules.
+//! The calls for eight bits, for H and for the cells of scratch against their rules.
 use crate::buffers::Lent;
 use crate::random::Random;
-use crate::rules::{bits, least_move};
+use crate::rules::{self, bits, least_move, takes};
 use mitongory::ffi;
 
 /// A call's number and answer are as they should be: the value, or a refusal that leaves the answer.
@@ -74,4 +74,26 @@ fn hash_value() {
         }
     }
     println!("hash_value: {calls} calls");
+}
+
+#[test]
+fn scratch_cells() {
+    let random = Random::of("scratch_cells");
+    let (calls, mut answer) = (200_000, Lent::new(&random, 4));
+    for _ in 0..calls {
+        let method = random.one_of(&[0, 1, 2, 3, 4, 0, 1, 2, 3, 4, 5, 256, 1 << random.below(32), u32::MAX]);
+        let near = 1 + random.below(2_060) as u64;
+        let m = random.one_of(&[near, near, near, 0, 7, 8, 14, 15, 64, 65, 2_048, 2_049, 1 << random.below(64), u64::MAX]);
+        let cells = random.one_of(&[0, 1, 1, 1, 2, 4]);
+        let want = match () {
+            _ if method > 4 => Err(100),
+            _ if cells == 0 => Err(101),
+            _ if m == 0 || m > 2_048 => Err(3),
+            _ if !takes(method, m as usize) => Err(5),
+            _ => Ok(rules::scratch_cells(method, m as usize) as u64),
+        };
+        let said = ffi::scratch_cells(method, m, answer.lend(cells));
+        assert!(check(said, &answer, want), "method {method}, m {m}, {cells} cells: {said}, not {want:?}");
+    }
+    println!("scratch_cells: {calls} calls");
 }

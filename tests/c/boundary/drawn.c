@@ -2,50 +2,13 @@
 #include <mitongory.h>
 #include <string.h>
 
-#include "bounds.h"
 #include "check.h"
 #include "draw.h"
+#include "naive.h"
 #include "papers.h"
 #include "parts.h"
-#include "search_call.h"
 
 enum { ROUNDS = 400, MOST_BYTES = 64, SHORT_PATTERN = 24, LONG_PATTERN = 200 };
-
-static size_t every_place(const uint8_t *text, uint64_t n, const uint8_t *pattern, uint64_t m, uint32_t *places)
-{
-    uint64_t s, j;
-    size_t count = 0;
-    for (s = 0; s + m <= n; s++) {
-        for (j = 0; j < m && bit(text, s + j) == bit(pattern, j); j++)
-            ;
-        if (j == m)
-            places[count++] = (uint32_t)s;
-    }
-    return count;
-}
-
-/* One search for all places, and its expected places. */
-static void one_search(const struct search *q, enum side side, const uint32_t *places, size_t count)
-{
-    const int unfit = (q->method == MITONGORY_HASH && q->m < LEAST_M_HASH) ||
-                      (q->method == MITONGORY_SKIP && q->m < LEAST_M_SKIP) ||
-                      (q->method == MITONGORY_TAIL && q->m > MOST_M_TAIL);
-    const uint64_t all = q->m <= q->n ? q->n - q->m + 1 : 0, *told;
-    struct search_buffers b;
-    uint32_t result = search_on(q, side, &b);
-    about("drawn input");
-    check(result == (unfit ? MITONGORY_PATTERN_UNFIT : MITONGORY_OK), "result");
-    if (result == MITONGORY_OK) {
-        told = at(&b.answer);
-        check(holds(&b.list, places, count * sizeof *places), "places");
-        check(told[MITONGORY_STEPS] <= all && told[MITONGORY_OCCURRENCES] == count && told[MITONGORY_MARK] == all &&
-                  told[MITONGORY_STOP] == MITONGORY_DONE,
-              "answer");
-    } else {
-        check(stays(&b.list) && stays(&b.answer) && stays(&b.scratch), "buffers of a refused call");
-    }
-    give_back_all(&b);
-}
 
 /* Every third byte or so is any byte, the others alternate. */
 static uint8_t draw_byte(void)
@@ -78,13 +41,16 @@ static void one_round(uint32_t round)
     q.pattern = pattern;
     q.pattern_len = (size_t)(q.m + 7) / 8;
     q.list_len = count + round % 3;
-    for (q.method = MITONGORY_PLAIN; q.method <= MITONGORY_TAIL; q.method++)
-        one_search(&q, round % 2 == 0 ? AT_START : AT_END, places, count);
+    for (q.method = MITONGORY_PLAIN; q.method <= MITONGORY_TAIL; q.method++) {
+        q.scratch_len = scratch_for(q.method, q.m) + draw(3);
+        search_for_all(&q, round % 2 == 0 ? AT_START : AT_END, places, count);
+    }
 }
 
 void drawn(void)
 {
     uint32_t round;
+    about("drawn input");
     for (round = 0; round < ROUNDS; round++)
         one_round(round);
 }

@@ -1,4 +1,4 @@
-/* What the header itself defines: the version, the numbers of a sitting, and a sentence for every result. */
+/* What the header itself defines: the version, the cells of a search, the numbers of a sitting, and a sentence for every result. */
 #include <mitongory.h>
 #include <stdio.h>
 #include <string.h>
@@ -34,11 +34,18 @@ static void version(void)
 {
     char text[40];
     about("version");
-    check(MITONGORY_VERSION_NUMBER == 400, "number of the header");
+    check(MITONGORY_VERSION_NUMBER == 500, "number of the header");
     check(mitongory_version() == MITONGORY_VERSION_NUMBER, "number of the library");
-    check(mitongory_version_0_4() == mitongory_version(), "the two functions");
+    check(mitongory_version_0_5() == mitongory_version(), "the two functions");
     snprintf(text, sizeof text, "%d.%d.%d", MITONGORY_VERSION_MAJOR, MITONGORY_VERSION_MINOR, MITONGORY_VERSION_PATCH);
     check(strcmp(text, MITONGORY_VERSION) == 0, "text");
+}
+
+static void cells_of_a_search(void)
+{
+    about("a search");
+    check(MITONGORY_SCRATCH_CELLS == 4222, "scratch");
+    check(MITONGORY_ANSWER_CELLS == 4, "answer");
 }
 
 static void numbers_of_a_sitting(void)
@@ -86,6 +93,7 @@ static void result_texts(void)
 void header(void)
 {
     version();
+    cells_of_a_search();
     numbers_of_a_sitting();
     result_texts();
 }

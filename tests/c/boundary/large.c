@@ -136,7 +136,7 @@ static void long_searches(void)
     b.scratch = huge;
     b.scratch_len = length;
     check(search_with(b) == MITONGORY_OK, "scratch");
-    check(finds(&b) && b.scratch[MITONGORY_SCRATCH_CELLS] == 0, "the place with that scratch");
+    check(finds(&b) && b.scratch[256] == 0, "the place with that scratch");
     clear(sizeof scratch);
 
     b = small_buffers();

@@ -13,6 +13,7 @@ int main(void)
     pack_papers();
     searches();
     drawn();
+    scratch();
     values();
     lists();
     sitting();

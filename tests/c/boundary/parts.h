@@ -4,6 +4,7 @@
 
 void searches(void);
 void drawn(void);
+void scratch(void);
 void values(void);
 void lists(void);
 void sitting(void);

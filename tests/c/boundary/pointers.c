@@ -25,6 +25,8 @@ static void empty_buffers(const char *name, void *nowhere)
     check(SEARCH(0, MITONGORY_TAIL + 1, nowhere, 0) == MITONGORY_UNKNOWN_METHOD, "search by method 5");
     check(SEARCH(0, MITONGORY_PLAIN, answer, 4) == MITONGORY_PATTERN_LENGTH, "search for no bits");
     check(SEARCH(1, MITONGORY_PLAIN, answer, 4) == MITONGORY_PATTERN_BYTES_MISSING, "search for one bit");
+    check(mitongory_scratch_cells(MITONGORY_PLAIN, 0, nowhere, 0) == MITONGORY_ANSWER_CELLS_MISSING, "scratch cells");
+    check(mitongory_scratch_cells(MITONGORY_TAIL + 1, 0, nowhere, 0) == MITONGORY_UNKNOWN_METHOD, "those of method 5");
     check(mitongory_hash_value(nowhere, 0, m, 0, nowhere, 0) == MITONGORY_ANSWER_CELLS_MISSING, "hash value");
     check(mitongory_hash_value(nowhere, 0, m, 0, answer, 1) == MITONGORY_PATTERN_BYTES_MISSING, "hash value of no bytes");
     check(mitongory_eight_bits(nowhere, 0, 0, 0, nowhere, 0) == MITONGORY_ANSWER_CELLS_MISSING, "eight bits");

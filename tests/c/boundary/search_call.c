@@ -5,26 +5,37 @@
 #include "check.h"
 #include "papers.h"
 
-/* All but the text and the pattern. */
-static struct search search_by(uint32_t method)
+size_t scratch_for(uint32_t method, uint64_t m)
 {
-    struct search q = {NULL, 0, 0, NULL, 0, 0, method, 0, UINT32_MAX, 3, MITONGORY_SCRATCH_CELLS, MITONGORY_ANSWER_CELLS};
+    switch (method) {
+    case MITONGORY_PLAIN: return 16 * ((m + 7) / 8 + ((m + 7) % 8 != 0));
+    case MITONGORY_HASH: return 256;
+    case MITONGORY_SKIP: return 256 + m;
+    case MITONGORY_WIDE: return 2 * (63 + m);
+    default: return 2;
+    }
+}
+
+/* All but the text and the pattern's bytes. */
+static struct search search_by(uint32_t method, uint64_t m)
+{
+    struct search q = {NULL, 0, 0, NULL, 0, m, method, 0, UINT32_MAX, 3, scratch_for(method, m), MITONGORY_ANSWER_CELLS};
     return q;
 }
 
 struct search paper1(uint32_t method)
 {
-    struct search q = search_by(method);
+    struct search q = search_by(method, PAPER1_M);
     q.text = paper1_text, q.text_len = PAPER1_TEXT_BYTES, q.n = PAPER1_N;
-    q.pattern = paper1_pattern, q.pattern_len = PAPER1_PATTERN_BYTES, q.m = PAPER1_M;
+    q.pattern = paper1_pattern, q.pattern_len = PAPER1_PATTERN_BYTES;
     return q;
 }
 
 struct search paper2(uint32_t method)
 {
-    struct search q = search_by(method);
+    struct search q = search_by(method, PAPER2_M);
     q.text = paper2_text, q.text_len = PAPER2_TEXT_BYTES, q.n = PAPER2_N;
-    q.pattern = paper2_pattern, q.pattern_len = PAPER2_PATTERN_BYTES, q.m = PAPER2_M;
+    q.pattern = paper2_pattern, q.pattern_len = PAPER2_PATTERN_BYTES;
     return q;
 }
 
@@ -74,7 +85,7 @@ void accepted(const char *name, struct search q, uint64_t steps, uint64_t occurr
 {
     const uint64_t told[MITONGORY_ANSWER_CELLS] = {steps, occurrences, mark, stop};
     expect(name, &q, MITONGORY_OK, told, sizeof told, places, (size_t)occurrences * sizeof *places,
-           MITONGORY_SCRATCH_CELLS * sizeof(uint64_t));
+           scratch_for(q.method, q.m) * sizeof(uint64_t));
 }
 
 void refused(const char *name, struct search q, uint32_t refusal)

@@ -16,6 +16,9 @@ struct search {
     size_t list_len, scratch_len, answer_len;
 };
 
+/* The cells of scratch that a method takes for a pattern of m bits, by the words of document 02. */
+size_t scratch_for(uint32_t method, uint64_t m);
+
 /* Paper 1 or 2 from the mark 0 on, with the largest budget, three list cells, and the least scratch and answer. */
 struct search paper1(uint32_t method);
 struct search paper2(uint32_t method);

@@ -162,11 +162,12 @@ static void refused_by_every_method(uint32_t method)
     refused_m("m = 2048 with 255 bytes", q, LARGEST_M, MITONGORY_PATTERN_BYTES_MISSING);
     q.pattern_len = LARGEST_M / 8;
     q.m = method == MITONGORY_TAIL ? MOST_M_TAIL : LARGEST_M;
+    q.scratch_len = scratch_for(method, q.m);
     accepted("the largest m that the method takes", q, 0, 0, 0, MITONGORY_DONE, NULL);
 
     refused_mark("a mark after the end", good, PAPER2_PLACES + 1);
     refused_mark("the largest mark", good, UINT32_MAX);
-    refused_scratch("one scratch cell too few", good, MITONGORY_SCRATCH_CELLS - 1);
+    refused_scratch("one scratch cell too few", good, scratch_for(method, good.m) - 1);
     refused_scratch("no scratch", good, 0);
     q = good;
     for (q.answer_len = 0; q.answer_len < MITONGORY_ANSWER_CELLS; q.answer_len++)
@@ -215,7 +216,9 @@ static void longest_by_tail(void)
     refused("tail, m = 64: then the mark", q, MITONGORY_BEYOND_END);
     q.mark = 3;
     refused("tail, m = 64: then the scratch", q, MITONGORY_SCRATCH_TOO_SHORT);
-    q.scratch_len = MITONGORY_SCRATCH_CELLS;
+    q.scratch_len = 1;
+    refused("tail, m = 64: one scratch cell too few", q, MITONGORY_SCRATCH_TOO_SHORT);
+    q.scratch_len = 2;
     accepted("tail, m = 64: and then it is accepted", q, 0, 0, 3, MITONGORY_DONE, NULL);
 }
 
@@ -250,7 +253,7 @@ static void order_of_refusals(void)
     refused("then the mark", q, MITONGORY_BEYOND_END);
     q.mark = PAPER1_PLACES;
     refused("then the scratch", q, MITONGORY_SCRATCH_TOO_SHORT);
-    q.scratch_len = MITONGORY_SCRATCH_CELLS;
+    q.scratch_len = 256;
     accepted("and then it is accepted", q, 0, 0, PAPER1_PLACES, MITONGORY_DONE, NULL);
 }
 

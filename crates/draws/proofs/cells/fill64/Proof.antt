@@ -8,13 +8,10 @@ use Rattle.draws.proofs.cells.fill64.Statement.{statement}
 use Rattle.draws.proofs.cells.fill64.Tie as tie
 
 abbrev Inv-loop : tie.InvT-loop
-Inv-loop s₀ count x end i₀ s i = length s ≡ length s₀
+Inv-loop s₀ from x i₀ s i = length s ≡ length s₀
 
 abbrev μ-loop : tie.MeasureT-loop
-μ-loop s₀ count x end i₀ s i = end - i
-
-least-of-requires : tie.Need-least-of-requires Inv-loop μ-loop
-least-of-requires c κs = search needs
+μ-loop s₀ from x i₀ s i = length s₀ - i
 
 loop-holds : tie.Need-loop-holds Inv-loop μ-loop
 loop-holds c = search needs
@@ -49,7 +46,6 @@ fill64-spec =
     (tie.spec
     Inv-loop
     μ-loop
-    least-of-requires
     loop-holds
     content-requires
     mul-s
