@@ -325,8 +325,7 @@ fn refusals_in_order() {
         let pattern = &bytes[300 - enough(&random, m)..];
         let places = if m <= n { n.wrapping_sub(m).wrapping_add(1) } else { 0 };
         let near = places.wrapping_add(random.below(3) as u64).wrapping_sub(1) as u32;
-        let method =
-            random.one_of(&[0, 1, 2, 3, 4, 0, 1, 2, 3, 4, 0, 1, 2, 3, 4, 5, 256, 1 << 16, 1 << 31, u32::MAX]);
+        let method = random.one_of(&[0, 1, 2, 3, 4, 0, 1, 2, 3, 4, 0, 1, 2, 3, 4, 5, 256, 1 << 16, 1 << 31, u32::MAX]);
         let figure = scratch_cells(method, m.min(2_048) as usize);
         let r = Request {
             method,

@@ -83,7 +83,8 @@ fn scratch_cells() {
     for _ in 0..calls {
         let method = random.one_of(&[0, 1, 2, 3, 4, 0, 1, 2, 3, 4, 5, 256, 1 << random.below(32), u32::MAX]);
         let near = 1 + random.below(2_060) as u64;
-        let m = random.one_of(&[near, near, near, 0, 7, 8, 14, 15, 64, 65, 2_048, 2_049, 1 << random.below(64), u64::MAX]);
+        let m =
+            random.one_of(&[near, near, near, 0, 7, 8, 14, 15, 64, 65, 2_048, 2_049, 1 << random.below(64), u64::MAX]);
         let cells = random.one_of(&[0, 1, 1, 1, 2, 4]);
         let want = match () {
             _ if method > 4 => Err(100),

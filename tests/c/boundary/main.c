@@ -13,7 +13,7 @@ int main(void)
     pack_papers();
     searches();
     drawn();
-    scratch();
+    scratches();
     values();
     lists();
     sitting();

@@ -4,7 +4,7 @@
 
 void searches(void);
 void drawn(void);
-void scratch(void);
+void scratches(void);
 void values(void);
 void lists(void);
 void sitting(void);

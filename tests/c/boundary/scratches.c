@@ -69,6 +69,27 @@ static void known_cells(void)
     cells_told(MITONGORY_TAIL, MOST_M_TAIL, 2, MITONGORY_OK, 2);
 }
 
+/* One method and m: what is told, and a search with so many cells and with one less, on both sides. */
+static void one_method(struct search q, const uint32_t *places)
+{
+    const size_t figure = scratch_for(q.method, q.m);
+    uint64_t told = 0;
+    int side;
+    if (unfit(q.method, q.m)) {
+        check(mitongory_scratch_cells(q.method, q.m, &told, 1) == MITONGORY_PATTERN_UNFIT && told == 0, "no cells");
+        q.scratch_len = figure;
+        search_for_all(&q, AT_END, places, q.list_len);
+        return;
+    }
+    check(mitongory_scratch_cells(q.method, q.m, &told, 1) == MITONGORY_OK && told == figure, "cells");
+    for (side = AT_START; side < SIDES; side++) {
+        q.scratch_len = figure;
+        search_for_all(&q, (enum side)side, places, q.list_len);
+        q.scratch_len = figure - 1;
+        search_for_all(&q, (enum side)side, places, q.list_len);
+    }
+}
+
 /* A text of up to MORE_BITS bits more than the pattern, which occurs in it. */
 static void one_length(uint64_t m)
 {
@@ -76,7 +97,6 @@ static void one_length(uint64_t m)
     uint32_t places[8 * MOST_BYTES];
     struct search q = paper1(MITONGORY_PLAIN);
     uint64_t i, from;
-    int side;
     for (i = 0; i < sizeof text; i++)
         text[i] = (uint8_t)(m % 3 == 0 ? 0x55 : draw(256));
     q.text = text, q.n = m + draw(MORE_BITS), q.text_len = (size_t)(q.n + 7) / 8;
@@ -85,16 +105,8 @@ static void one_length(uint64_t m)
     for (i = 0; i < m; i++)
         set_bit(pattern, i, bit(text, from + i));
     q.list_len = every_place(text, q.n, pattern, m, places);
-    for (q.method = MITONGORY_PLAIN; q.method <= MITONGORY_TAIL; q.method++) {
-        const size_t figure = scratch_for(q.method, m);
-        cells_told(q.method, m, 1, unfit(q.method, m) ? MITONGORY_PATTERN_UNFIT : MITONGORY_OK, figure);
-        for (side = AT_START; side < SIDES; side++) {
-            q.scratch_len = figure;
-            search_for_all(&q, (enum side)side, places, q.list_len);
-            q.scratch_len = figure - 1;
-            search_for_all(&q, (enum side)side, places, q.list_len);
-        }
-    }
+    for (q.method = MITONGORY_PLAIN; q.method <= MITONGORY_TAIL; q.method++)
+        one_method(q, places);
 }
 
 /* The macro is the largest figure that is told for any method and m. */
@@ -110,7 +122,7 @@ static void largest_cells(void)
     check(largest == MITONGORY_SCRATCH_CELLS, "the macro");
 }
 
-void scratch(void)
+void scratches(void)
 {
     uint64_t m;
     refused_cells();
