@@ -4,7 +4,8 @@
 # make uninstall  remove these files again
 # make test       the whole gate, from nothing
 # make bench      the library against C and Rust: prints the tables and writes docs/PERFORMANCE.md. MODE=check checks
-#                 instead; other modes (bench/bench.c) time one part
+#                 instead; other modes (bench/bench.c) time one part. BEFORE=DIR, a clone with an earlier commit and its
+#                 library, compares with that one too
 .PHONY: run lib install uninstall test bench
 .NOTPARALLEL:
 SHELL := bash

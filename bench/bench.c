@@ -5,7 +5,8 @@
 //   bench short             calls with a budget of one step, nanoseconds for a call
 //   bench files             the position list file, nanoseconds for a position
 //   bench sitting           the marking of a sitting, nanoseconds for a position
-//   bench all               all of the timed parts
+//   bench before            searches by the library against an earlier archive of it, where one was linked
+//   bench all               all of the timed parts, but for the last one
 #include "bench.h"
 #include <stdio.h>
 #include <stdlib.h>
@@ -17,7 +18,8 @@ int main(int count, char **args) {
     int all = !strcmp(mode, "all"), known = all;
     if (!strcmp(mode, "check")) return check(number ? number : 100);
     if (all || !strcmp(mode, "texts")) {
-        printf("\n## Searches\n\nNanoseconds for each bit of the text.\n");
+        printf("\n## Searches\n\nNanoseconds for each bit of the text. Scratch is the memory that the call needs, in bytes; it is\n"
+               "lent no more.\n");
         known = 1, time_texts(number ? (int)number : 27);
     }
     if (all || !strcmp(mode, "hard")) {
@@ -40,6 +42,7 @@ int main(int count, char **args) {
                "positions and one that does not, and the faster of the two is its time.\n");
         known = 1, time_sitting();
     }
-    if (!known) fprintf(stderr, "bench check | texts | hard | short | files | sitting | all\n");
+    if (!strcmp(mode, "before")) known = 1, time_before();
+    if (!known) fprintf(stderr, "bench check | texts | hard | short | files | sitting | before | all\n");
     return known ? 0 : 2;
 }

@@ -1,4 +1,5 @@
-// The benchmark's parts: the check, the timed searches, the timed list files and the timed sitting. Tables go to standard
+// The benchmark's parts: the check, the timed searches, the timed list files, the timed sitting, and the comparison with an
+// earlier archive. Tables go to standard
 // output as Markdown, progress to standard error.
 #ifndef BENCH_H
 #define BENCH_H
@@ -10,4 +11,5 @@ void time_hard(void);
 void time_short(void);
 void time_files(void);
 void time_sitting(void);
+void time_before(void);
 #endif

@@ -45,41 +45,26 @@ static struct input input(uint8_t *text, uint8_t *pattern, int large, int front)
     return x;
 }
 
-// The cells that a method's tables may take.
-static size_t figure(int method, size_t m) {
-    switch (method) {
-    case PLAIN: return 16 * ((m + 14) / 8);
-    case HASH: return 256;
-    case SKIP: return 256 + m;
-    case WIDE: return 2 * (63 + m);
-    default: return 2;
-    }
-}
-
-// One call of both, from any scratch and list, held to the rules.
+// One call of both, from any scratch and list, held to the rules. The scratch has just the cells that the method takes, and
+// lies against a page that cannot be touched.
 static void check_call(struct input x, int method, size_t mark, size_t budget, size_t cells, uint8_t *lists,
                        uint8_t *cell_room) {
     static uint32_t want_list[8192];
     struct answer want, got;
     uint32_t *list = lent(lists, cells * sizeof *list, 0);
-    uint64_t *scratch = lent(cell_room, CELLS * sizeof *scratch, 0);
+    size_t scratch_bytes = scratch_cells(method, x.m) * sizeof(uint64_t);
+    uint64_t *scratch = lent(cell_room, scratch_bytes, below(2));
     memset(want_list, 0x5a, cells * sizeof *list);
     rules_search(x.t, x.n, x.w, x.m, method, mark, budget, want_list, cells, &want);
     for (int who = 0; who < 2; who++) {
         memset(list, 0x5a, cells * sizeof *list);
-        int fill = 0x11 * below(16);
-        memset(scratch, fill, CELLS * sizeof *scratch);
+        memset(scratch, 0x11 * below(16), scratch_bytes);
         if (who)
             library_search(x.t, x.n, x.w, x.m, method, mark, budget, list, cells, scratch, &got);
         else
             c_search(x.t, x.n, x.w, x.m, method, mark, budget, list, cells, scratch, &got);
         if (memcmp(&want, &got, sizeof got) || memcmp(want_list, list, cells * sizeof *list))
             differ(who ? "library" : "yardstick", method, x.n, x.m, mark, budget, cells, &got, &want);
-        for (size_t i = sizeof *scratch * figure(method, x.m); i < CELLS * sizeof *scratch; i++)
-            if (((uint8_t *)scratch)[i] != fill) {
-                printf("%s: table past its figure\n", method_names[method]);
-                exit(1);
-            }
     }
 }
 
@@ -128,6 +113,19 @@ static void check_papers(void) {
             }
 }
 
+// The cells of scratch that the library tells, for every method and length.
+static void check_cells(void) {
+    for (int method = 0; method < METHODS; method++)
+        for (size_t m = 0; m < 2060; m++) {
+            uint32_t refused = m == 0 || m > 2048 ? 3 : takes(method, m) ? 0 : 5;
+            uint64_t told = 0, want = refused ? 0 : scratch_cells(method, m);
+            if (mitongory_scratch_cells(method, m, &told, 1) != refused || told != want) {
+                printf("%s, m %zu: %lu cells of scratch, should be %lu\n", method_names[method], m, told, want);
+                exit(1);
+            }
+        }
+}
+
 // The library's refusals, each where all later ones would hold too; the yardstick has none.
 static void check_refusals(void) {
     static uint8_t t[8], w[300];
@@ -140,12 +138,13 @@ static void check_refusals(void) {
         {1073741825, 0, 0, 0, 9, 0, HASH, 1}, {~0ull, 0, ~0ull, 0, 9, 0, HASH, 1}, {9, 1, 0, 0, 99, 0, HASH, 2},
         {9, 2, 0, 0, 99, 0, HASH, 3},         {9, 2, 2049, 0, 99, 0, HASH, 3},     {9, 2, ~0ull, 0, 99, 0, SKIP, 3},
         {9, 2, 9, 1, 99, 0, SKIP, 4},         {9, 2, 7, 1, 99, 0, HASH, 5},        {64, 8, 14, 2, 99, 0, SKIP, 5},
-        {36, 5, 10, 2, 28, 0, PLAIN, 6},      {36, 5, 10, 2, ~0u, 0, WIDE, 6},     {36, 5, 10, 2, 27, 4223, WIDE, 7},
-        {36, 5, 10, 2, 27, CELLS, WIDE, 0},   {36, 5, 8, 1, 29, CELLS, HASH, 0},   {36, 5, 15, 2, 22, CELLS, SKIP, 0},
+        {36, 5, 10, 2, 28, 0, PLAIN, 6},      {36, 5, 10, 2, ~0u, 0, WIDE, 6},     {36, 5, 10, 2, 27, 145, WIDE, 7},
+        {36, 5, 10, 2, 27, 146, WIDE, 0},     {36, 5, 8, 1, 29, 256, HASH, 0},     {36, 5, 15, 2, 22, 271, SKIP, 0},
         {0, 0, 2048, 256, 0, CELLS, SKIP, 0}, {0, 0, 1, 1, 1, CELLS, PLAIN, 6},    {64, 8, 65, 8, 99, 0, TAIL, 4},
         {0, 0, 2048, 256, 0, CELLS, TAIL, 5}, {64, 8, 65, 9, 99, 0, TAIL, 5},      {64, 8, 64, 8, 2, 0, TAIL, 6},
-        {64, 8, 64, 8, 1, 4223, TAIL, 7},     {64, 8, 64, 8, 1, CELLS, TAIL, 0},   {64, 8, 1, 1, 64, CELLS, TAIL, 0},
-        {~0ull, 0, 0, 0, 9, 0, METHODS, 100},
+        {64, 8, 64, 8, 1, 1, TAIL, 7},        {64, 8, 64, 8, 1, 2, TAIL, 0},       {64, 8, 1, 1, 64, CELLS, TAIL, 0},
+        {36, 5, 8, 1, 29, 255, HASH, 7},      {36, 5, 15, 2, 22, 270, SKIP, 7},    {36, 5, 10, 2, 27, 47, PLAIN, 7},
+        {36, 5, 10, 2, 27, 48, PLAIN, 0},     {~0ull, 0, 0, 0, 9, 0, METHODS, 100},
     };
     for (size_t i = 0; i < sizeof rows / sizeof *rows; i++) {
         uint64_t o[4];
@@ -194,6 +193,7 @@ int check(long rounds) {
     uint8_t *text = room(), *pattern = room(), *lists = room(), *cell_room = room();
     long calls = 0;
     check_papers();
+    check_cells();
     check_refusals();
     long files = check_files(rounds * 1000);
     for (long r = 0; r < rounds; r++) {

@@ -8,6 +8,17 @@ extern const char *const method_names[METHODS];
 // Whether a method takes patterns of m bits.
 int takes(int method, size_t m);
 
+// The cells of scratch that a method takes for a pattern of m bits.
+static inline size_t scratch_cells(int method, size_t m) {
+    switch (method) {
+    case PLAIN: return 16 * ((m + 14) / 8);
+    case HASH: return 256;
+    case SKIP: return 256 + m;
+    case WIDE: return 2 * (63 + m);
+    default: return 2;
+    }
+}
+
 // What a call answers.
 void rules_search(const uint8_t *t, size_t n, const uint8_t *w, size_t m, int method, size_t mark, size_t budget,
                   uint32_t *list, size_t cells, struct answer *out);

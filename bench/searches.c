@@ -81,7 +81,7 @@ static void rows(const char *what, const struct job *job, const double *sums, in
         if (!runs(job, method)) continue;
         double ns[SIDES] = {sums[method] / patterns, sums[METHODS + method] / patterns, sums[LOOP] / patterns};
         char name[80];
-        snprintf(name, sizeof name, "%s | %s", what, method_names[method]);
+        snprintf(name, sizeof name, "%s | %s | %zu", what, method_names[method], 8 * scratch_cells(method, job->m));
         row(name, ns);
         note(method, ns);
     }
@@ -96,7 +96,7 @@ void time_texts(int log2) {
     memset(list, 1, cells * sizeof *list); // so that no run pays for new pages
     for (size_t z = 0; z < 3; z++) {
         printf("\n### %u %% zeros\n", zeros[z]);
-        head(" m | method | library | C | naive Rust | library / C | naive / library ");
+        head(" m | method | scratch | library | C | naive Rust | library / C | naive / library ");
         draw_text(t, n, zeros[z]);
         for (size_t k = 0; k < sizeof lengths / sizeof *lengths; k++) {
             double sums[CONTENDERS] = {0};
@@ -129,7 +129,7 @@ void time_hard(void) {
     size_t n = 1 << 19;
     uint8_t *t = malloc(n / 8), w[256];
     uint32_t *list = calloc(n, sizeof *list);
-    head(" text and pattern | m | method | library | C | naive Rust | library / C | naive / library ");
+    head(" text and pattern | m | method | scratch | library | C | naive Rust | library / C | naive / library ");
     for (int kind = 0; kind < KINDS; kind++) {
         progress("hard texts: %s", kinds[kind]);
         for (size_t k = 0; k < sizeof lengths / sizeof *lengths; k++) {
@@ -162,7 +162,7 @@ void time_short(void) {
     static uint32_t list[16];
     draw_text(t, 8 * sizeof t, 50);
     progress("calls with a budget of 1");
-    head(" m | method | library | C | library / C ");
+    head(" m | method | scratch | library | C | library / C ");
     for (size_t k = 0; k < sizeof lengths / sizeof *lengths; k++) {
         double best[2 * METHODS];
         draw_word(w, lengths[k], t, 8 * sizeof t);
@@ -171,7 +171,8 @@ void time_short(void) {
         compare(&job, 0);
         for (int method = 0; method < METHODS; method++)
             if (runs(&job, method))
-                printf("| %zu | %s | %.0f | %.0f | %.2f |\n", lengths[k], method_names[method], best[method] / 1000,
-                       best[METHODS + method] / 1000, best[method] / best[METHODS + method]);
+                printf("| %zu | %s | %zu | %.0f | %.0f | %.2f |\n", lengths[k], method_names[method],
+                       8 * scratch_cells(method, lengths[k]), best[method] / 1000, best[METHODS + method] / 1000,
+                       best[method] / best[METHODS + method]);
     }
 }

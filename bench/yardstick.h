@@ -15,7 +15,7 @@ struct answer {
     uint64_t stop;
 };
 
-// A search call; scratch has 4,224 cells or more.
+// A search call; scratch has the cells that the method takes for m (scratch_cells of rules.h), or more.
 void c_search(const uint8_t *text, uint64_t n, const uint8_t *pattern, uint64_t m, int method, uint32_t mark,
               uint32_t budget, uint32_t *list, size_t cells, uint64_t *scratch, struct answer *out);
 #endif

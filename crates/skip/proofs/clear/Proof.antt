@@ -6,7 +6,7 @@ use mathlib.Core.List.{List, _++_}
 use native.Mathlib.Omega.{arith}
 use denote.Ref.{now}
 use borrow.Author.Fill.{fill-none, fill-more}
-use lib.ListN.{set, drop, replicate}
+use lib.ListN.{length, set, drop, replicate}
 use Rattle.skip.proofs.SkipFilling.{same-size}
 use Rattle.skip.proofs.clear.Statement.{statement}
 use Rattle.skip.proofs.clear.Tie as tie
@@ -15,7 +15,7 @@ abbrev Inv-loop : tie.InvT-loop
 Inv-loop cells₀ i₀ cells i = (i ≤ 256) × (cells ≡ replicate i 0 ++ drop i cells₀)
 
 abbrev μ-loop : tie.MeasureT-loop
-μ-loop cells₀ i₀ cells i = 256 - i
+μ-loop cells₀ i₀ cells i = length cells₀ - i
 
 loop-holds : tie.Need-loop-holds Inv-loop μ-loop
 loop-holds c = (omega arith, fill-none _ 0)
@@ -32,7 +32,9 @@ add-i : tie.Need-add-i Inv-loop μ-loop
 add-i c = omega arith
 
 loop-less : tie.Need-loop-less Inv-loop μ-loop
-loop-less c = omega arith
+loop-less c =
+    let l = c .before .loop in
+    omega (arith, same-size (l .i) (now (c .before .before .args .cells)) (l .cells) (l .inv .1) (omega arith))
 
 loop-again : tie.Need-loop-again Inv-loop μ-loop
 loop-again c =
