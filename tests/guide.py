@@ -55,13 +55,20 @@ class Library:
     def __init__(self, folder):
         self.calls = load(folder)
 
-    def search(self, text, pattern, method, mark, budget, room):
-        """A refusal's number, or steps, places, mark and stop."""
+    def scratch_cells(self, method, m):
+        """A refusal's number, below 0, or the cells."""
+        answer = cells(ctypes.c_uint64, [0])
+        said = self.calls.mitongory_scratch_cells(ctypes.c_uint32(METHODS.index(method)), ctypes.c_uint64(m), *answer)
+        return answer[0][0] if said == 0 else -said
+
+    def search(self, text, pattern, method, mark, budget, room, lent=None):
+        """A refusal's number, or steps, places, mark and stop. The scratch is as short as it may be, where it is not given."""
+        lent = max(self.scratch_cells(method, len(pattern)), 0) if lent is None else lent
         run = lambda bits: cells(ctypes.c_uint8, pack(bits)) + (ctypes.c_uint64(len(bits)),)
         places = cells(ctypes.c_uint32, [7] * room)
         answer = cells(ctypes.c_uint64, [0] * 4)
         numbers = [ctypes.c_uint32(x) for x in (METHODS.index(method), mark, budget)]
-        scratch = cells(ctypes.c_uint64, [5] * 4224)
+        scratch = cells(ctypes.c_uint64, [5] * lent)
         said = self.calls.mitongory_search(*run(text), *run(pattern), *numbers, *places, *scratch, *answer)
         if said != 0:
             return said
@@ -110,16 +117,16 @@ def packed(block, where):
     check("".join(rows["bits"])[: int(rows["count"][0])], rows["string"][0], where)
 
 
-CALL = re.compile(r"^(\w+) +mark (\d+) +budget (\w+) +cells (\d+) +-> +(.*)$")
+CALL = re.compile(r"^(\w+) +mark (\d+) +budget (\w+) +cells (\d+) +(?:scratch (\d+) +)?-> +(.*)$")
 
 
 def calls(block, where):
     """A text, a pattern, and calls with their answers."""
     text, pattern = (line.split()[1] for line in block[:2])
     for line in block[2:]:
-        method, mark, budget, room, answer = CALL.match(line).groups()
+        method, mark, budget, room, lent, answer = CALL.match(line).groups()
         budget = ALL if budget == "all" else int(budget)
-        said = library.search(text, pattern, method, int(mark), budget, int(room))
+        said = library.search(text, pattern, method, int(mark), budget, int(room), lent and int(lent))
         if isinstance(said, int):
             check("refused %d" % said, answer, where)
             continue
@@ -152,6 +159,14 @@ def rows(block, where):
         at = [8 * h - i + j for h in range((m + i + 7) // 8) for j in range(8)]
         check("".join(pattern[k] if 0 <= k < m else "0" for k in at), row.replace(" ", ""), where)
         check("".join("1" if 0 <= k < m else "0" for k in at), mask.replace(" ", ""), where)
+
+
+def scratches(block, where):
+    """The cells of scratch that a method takes for a pattern of so many bits."""
+    for line in block:
+        method, m, answer = re.match(r"^(\w+) +m (\d+) +-> +(.*)$", line).groups()
+        said = library.scratch_cells(method, int(m))
+        check("refused %d" % -said if said < 0 else str(said), answer, where)
 
 
 def hash_values(block, where):
@@ -272,6 +287,7 @@ SIMPLE = {
     "calls": calls,
     "rows": rows,
     "hash": hash_values,
+    "scratch": scratches,
     "file": files,
     "sitting": sittings,
     "console": console,

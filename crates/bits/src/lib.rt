@@ -50,7 +50,7 @@ impl ByteNo {
 
 // How many bytes so many bits take, document 01's ceil(n/8).
 pub fn bytes_for(n: u64) -> u64
-    requires { ⌜ n ≤ 2 ^ 32 ⌝ }
+    requires { ⌜ n ≤ 2 ^ 63 ⌝ }
     ensures { λ r. ⌜ r ≡ bytesFor n ⌝ }
 {
     (n + 7) / 8

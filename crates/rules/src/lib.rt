@@ -1,5 +1,6 @@
 // The five ways to search for a pattern of bits in a packed text, as rules: what a step of each finds and how far it
-// moves, the machine that makes the steps, and the cells that the tables take. All of it is in specs/, and the theorems about it are in proofs/.
+// moves, the machine that makes the steps, and how many cells the tables of each take. All of it is in specs/, and the
+// theorems about it are in proofs/; of code there is only what tells those cells.
 ghost use mathlib.Core.Path.{_≡_};
 ghost use Rattle.rules.specs.Scratch.{scratchCells};
 
@@ -19,7 +20,7 @@ impl Method {
     {
         let k = m as u64;
         match self {
-            Method::Plain => 16 * ((k + 14) / 8),
+            Method::Plain => 16 * bits::bytes_for(k + 7),
             Method::Hash => 256,
             Method::Skip => 256 + k,
             Method::Wide => 2 * (63 + k),

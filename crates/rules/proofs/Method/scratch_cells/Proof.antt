@@ -8,11 +8,14 @@ use Rattle.rules.proofs.Method.scratch_cells.Tie as tie
 enum-told : tie.Need-enum-told
 enum-told c = search needs
 
-add-result : tie.Need-add-result
-add-result c = search needs
+add-bytes-for : tie.Need-add-bytes-for
+add-bytes-for c = search needs
+
+bytes-for-requires : tie.Need-bytes-for-requires
+bytes-for-requires c κs = search needs
 
 mul-result : tie.Need-mul-result
-mul-result c = search needs
+mul-result c = omega arith
 
 enum-told-2 : tie.Need-enum-told-2
 enum-told-2 c = search needs
@@ -20,14 +23,14 @@ enum-told-2 c = search needs
 enum-told-3 : tie.Need-enum-told-3
 enum-told-3 c = search needs
 
-add-result-2 : tie.Need-add-result-2
-add-result-2 c = search needs
+add-result : tie.Need-add-result
+add-result c = search needs
 
 enum-told-4 : tie.Need-enum-told-4
 enum-told-4 c = search needs
 
-add-result-3 : tie.Need-add-result-3
-add-result-3 c = search needs
+add-result-2 : tie.Need-add-result-2
+add-result-2 c = search needs
 
 mul-result-2 : tie.Need-mul-result-2
 mul-result-2 c = search needs
@@ -36,7 +39,7 @@ enum-told-5 : tie.Need-enum-told-5
 enum-told-5 c = search needs
 
 returns : tie.Need-returns
-returns c = rw (c .enum-told .given .1) (omega arith)
+returns c = rw (c .before .enum-told .given .1) (omega (arith, c .bytes-for .ensures))
 
 returns-2 : tie.Need-returns-2
 returns-2 c = search needs
@@ -55,13 +58,14 @@ scratch-cells-spec =
     tie.close
     (tie.spec
     enum-told
-    add-result
+    add-bytes-for
+    bytes-for-requires
     mul-result
     enum-told-2
     enum-told-3
-    add-result-2
+    add-result
     enum-told-4
-    add-result-3
+    add-result-2
     mul-result-2
     enum-told-5
     returns
