@@ -44,11 +44,6 @@ static void look(void *of, int who) {
     for (size_t i = 0; i < p->answers[who][MITONGORY_OCCURRENCES]; i++) p->sums[who] = p->sums[who] * 31 + p->list[i];
 }
 
-static int rising(const void *a, const void *b) {
-    double x = *(const double *)a, y = *(const double *)b;
-    return (x > y) - (x < y);
-}
-
 enum { ROWS = 64 };
 static double ratios[METHODS][ROWS];
 static int noted[METHODS];
@@ -98,7 +93,7 @@ void time_before(void) {
     head(" method | rows | now / before, median | least | largest ");
     for (int g = 0; g < METHODS; g++) {
         int k = noted[g];
-        qsort(ratios[g], k, sizeof(double), rising);
+        sort(ratios[g], k);
         printf("| %s | %d | %.2f | %.2f | %.2f |\n", method_names[g], k, ratios[g][k / 2], ratios[g][0], ratios[g][k - 1]);
     }
     free(t), free(list);

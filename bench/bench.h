@@ -1,6 +1,5 @@
 // The benchmark's parts: the check, the timed searches, the timed list files, the timed sitting, and the comparison with an
-// earlier archive. Tables go to standard
-// output as Markdown, progress to standard error.
+// earlier archive. Tables go to standard output as Markdown, progress to standard error.
 #ifndef BENCH_H
 #define BENCH_H
 

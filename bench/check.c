@@ -45,26 +45,34 @@ static struct input input(uint8_t *text, uint8_t *pattern, int large, int front)
     return x;
 }
 
-// One call of both, from any scratch and list, held to the rules. The scratch has just the cells that the method takes, and
-// lies against a page that cannot be touched.
+// One call of both, from any scratch and list, held to the rules. The scratch has just the cells that the method takes. A page
+// that cannot be touched lies before it or after it, and where it lies before, some bytes after the scratch are compared.
 static void check_call(struct input x, int method, size_t mark, size_t budget, size_t cells, uint8_t *lists,
                        uint8_t *cell_room) {
     static uint32_t want_list[8192];
     struct answer want, got;
     uint32_t *list = lent(lists, cells * sizeof *list, 0);
     size_t scratch_bytes = scratch_cells(method, x.m) * sizeof(uint64_t);
-    uint64_t *scratch = lent(cell_room, scratch_bytes, below(2));
+    int front = below(2);
+    uint8_t *scratch = lent(cell_room, scratch_bytes, front);
     memset(want_list, 0x5a, cells * sizeof *list);
     rules_search(x.t, x.n, x.w, x.m, method, mark, budget, want_list, cells, &want);
     for (int who = 0; who < 2; who++) {
         memset(list, 0x5a, cells * sizeof *list);
-        memset(scratch, 0x11 * below(16), scratch_bytes);
+        size_t after = front ? 256 : 0;
+        int fill = 0x11 * below(16);
+        memset(scratch, fill, scratch_bytes + after);
         if (who)
-            library_search(x.t, x.n, x.w, x.m, method, mark, budget, list, cells, scratch, &got);
+            library_search(x.t, x.n, x.w, x.m, method, mark, budget, list, cells, (uint64_t *)scratch, &got);
         else
-            c_search(x.t, x.n, x.w, x.m, method, mark, budget, list, cells, scratch, &got);
+            c_search(x.t, x.n, x.w, x.m, method, mark, budget, list, cells, (uint64_t *)scratch, &got);
         if (memcmp(&want, &got, sizeof got) || memcmp(want_list, list, cells * sizeof *list))
             differ(who ? "library" : "yardstick", method, x.n, x.m, mark, budget, cells, &got, &want);
+        for (size_t i = 0; i < after; i++)
+            if (scratch[scratch_bytes + i] != fill) {
+                printf("%s, m %zu: a store after the scratch\n", method_names[method], x.m);
+                exit(1);
+            }
     }
 }
 

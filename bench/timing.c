@@ -65,11 +65,13 @@ static int rising(const void *a, const void *b) {
     return (x > y) - (x < y);
 }
 
+void sort(double *ratios, int count) { qsort(ratios, count, sizeof *ratios, rising); }
+
 void summary(const char *const *groups, int count) {
     head(" | rows | library / C, median | library / C, largest | naive / library, least | naive / library, median ");
     for (int g = 0; g < count; g++) {
         int k = noted[g];
-        for (int i = 0; i < 2; i++) qsort(ratios[g][i], k, sizeof(double), rising);
+        for (int i = 0; i < 2; i++) sort(ratios[g][i], k);
         printf("| %s | %d |", groups[g], k);
         number(ratios[g][0][k / 2]), number(ratios[g][0][k - 1]);
         number(ratios[g][1][0]), number(ratios[g][1][k / 2]);

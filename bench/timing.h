@@ -30,6 +30,9 @@ void row(const char *what, const double *ns);
 void note(int group, const double *ns);
 void summary(const char *const *groups, int count);
 
+// Puts ratios in rising order.
+void sort(double *ratios, int count);
+
 // A line of progress.
 void progress(const char *format, ...) __attribute__((format(printf, 1, 2)));
 #endif

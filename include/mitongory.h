@@ -213,9 +213,9 @@ enum mitongory_marks {
  *   text, pattern   packed bits; there may be more bytes than the bit counts need, and what is in them never matters
  *   method          one of enum mitongory_method
  *   list            any length; the places go to its front, and the other cells stay
- *   scratch         with any content, at least the cells that the method takes for m (mitongory_scratch_cells), for which
- *                   MITONGORY_SCRATCH_CELLS are always enough; after an accepted call those cells hold nothing of use,
- *                   and the others stay; more cells than needed change nothing else
+ *   scratch         with any content, at least as many cells as mitongory_scratch_cells tells for the method and m;
+ *                   MITONGORY_SCRATCH_CELLS are always enough. After an accepted call the cells before that figure
+ *                   hold nothing of use, and those from it on stay. More cells than needed change no answer.
  *   answer          at least MITONGORY_ANSWER_CELLS cells: steps, occurrences, mark, stop
  *
  * Returns 0, or the first of 100, 101, 1, 2, 3, 4, 5, 6, 7 that applies.

@@ -142,9 +142,10 @@
 //! # What is proved
 //!
 //! For every input, refusals included, each call of the library answers as its short definition says and leaves every
-//! buffer as that says; and the calls of a search, joined, list every occurrence once (see [`search`]). The proofs end
-//! at the archive. This crate's Rust code, its declarations of the calls, and the compiler and linker are not proved:
-//! the crate is tested against a naive search, a naive codec and naive marking. One module has `unsafe` code, around the calls.
+//! buffer as that says; the calls of a search, joined, list every occurrence once (see [`search`]); and what a call
+//! answers does not depend on its scratch, if that has enough cells (see [`Scratch`]). The proofs end at the archive.
+//! This crate's Rust code, its declarations of the calls, and the compiler and linker are not proved: the crate is
+//! tested against a naive search, a naive codec and naive marking. One module has `unsafe` code, around the calls.
 
 mod bits;
 mod call;

@@ -1,7 +1,7 @@
--- Laws that the proofs of several functions cite (`Telling`, `Calling`), and the theorems about the promises: of one
--- call (`Answers`), of its scratch (`Scratch`), of every list of search calls (`CallList`) and when it goes on (`Progress`), of the writer and the
--- reader one after the other (`ListCalls`), of the marking (`SittingCalls`), and of the marking against the key that a
--- finished search gave (`AnswerKey`).
+-- Laws that the proofs of several functions cite (`Telling`, `Calling`), and the theorems about the promises: of one call
+-- (`Answers`), of its scratch (`Scratch`), of every list of search calls (`CallList`) and when it goes on (`Progress`), of
+-- the writer and the reader one after the other (`ListCalls`), of the marking (`SittingCalls`), and of the marking against
+-- the key that a finished search gave (`AnswerKey`).
 pub mod Telling
 pub mod Calling
 pub mod Answers

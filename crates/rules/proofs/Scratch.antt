@@ -1,4 +1,4 @@
--- The largest figure is enough for every method.
+-- The largest figure is enough for every method, and nothing less is.
 -- Assumes nothing.
 use mathlib.Core.Path.{refl}
 use Prim.Native.Nat.{ℕ, _≤_}
@@ -16,4 +16,4 @@ enough Wide m h = omega arith
 enough Tail m h = omega arith
 
 pub most : Most
-most = record { is = refl; enough = enough }
+most = record { is = refl; enough = enough; least = λ k h. h Wide 2048 (omega arith) }

@@ -23,3 +23,4 @@ mostCells = scratchCells Wide 2048
 pub record Most : Type 0 where
   pub is : mostCells ≡ 4222
   pub enough : (x : Method) (m : ℕ) → m ≤ 2048 → scratchCells x m ≤ mostCells
+  pub least : (k : ℕ) → ((x : Method) (m : ℕ) → m ≤ 2048 → scratchCells x m ≤ k) → mostCells ≤ k

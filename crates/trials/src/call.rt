@@ -16,10 +16,10 @@ use search::Stop;
 // Every step that there is.
 pub(crate) const ALL: usize = 4294967295;
 
-// The cells of scratch that there are. A call is lent a run of them, as many as its method takes, or some more, or too few; so
-// many before it are lent to none.
+// The cells of scratch that there are. A call is lent a run of them, as many as its method takes, or some more, or too few.
 pub(crate) const SCRATCH: usize = 4233;
 
+// So many cells lie before that run, and are lent to no call.
 pub(crate) const GUARD: usize = 5;
 
 // What a call is given: n bits of text in `text` bytes, m bits of pattern in `pattern` bytes, the method by its number, mark

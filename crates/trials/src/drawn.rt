@@ -203,7 +203,7 @@ fn row(edges: &[usize], i: usize) -> Call {
     }
 }
 
-// Each method with each length of the pattern from 0 to 2,050, on a text that is up to 150 bits longer, with a scratch that is
+// Each method with each length of the pattern from 0 to 2,050, on a text of up to 149 bits more, with a scratch that is
 // just enough or one cell less: the case's number tells which.
 pub(crate) const LENGTHS: usize = 20510;
 

@@ -44,6 +44,7 @@ pub(crate) fn unfit(way: usize, m: usize) -> bool {
 
 // How many cells of scratch a method takes for a pattern of m bits: a byte of a row to a cell, eight rows and their masks; an
 // entry for each value of a byte; these and a link for each index; two words for each bit of a window of 64 places; two words.
+// The remainders only keep a product of any m from growing too large.
 pub(crate) fn figure(way: usize, m: usize) -> usize {
     match way {
         0 => ceiling(plus(m, 7)) % 65536 * 16,

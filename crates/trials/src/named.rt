@@ -212,7 +212,7 @@ const REFUSALS: [Row; 27] = [
     Row(4, 36, 5, 65, 8, 4, 0, 2),
     Row(5, 36, 5, 65, 9, 4, 1, 1),
     Row(0, 36, 5, 64, 8, 4, 0, 2),
-    // a cell fewer than the figure, and plain with the bytes of the pattern for those of its longest row
+    // each method with its figure and with a cell fewer, and plain with the bytes of the pattern for those of its longest row
     Row(7, 36, 5, 10, 2, 0, 0, 32),
     Row(0, 9, 2, 2, 1, 0, 0, 32),
     Row(7, 9, 2, 2, 1, 0, 0, 31),

@@ -294,7 +294,7 @@ fn refusal(text: &[u8], n: u64, pattern: &[u8], m: u64, r: Request) -> u32 {
         (4, (pattern.len() as u64) < m.div_ceil(8)),
         (5, !takes(r.method, m as usize)),
         (6, u64::from(r.mark) > places),
-        (7, r.scratch < scratch_cells(r.method, m as usize)),
+        (7, r.scratch < scratch_cells(r.method, m.min(2_048) as usize)),
     ];
     rows.into_iter().find(|&(_, holds)| holds).map_or(0, |(number, _)| number)
 }

@@ -1,4 +1,4 @@
-/* What the header itself defines: the version, the cells of a search, the numbers of a sitting, and a sentence for every result. */
+/* What the header itself defines: the version, the numbers of a search and of a sitting, and a sentence for every result. */
 #include <mitongory.h>
 #include <stdio.h>
 #include <string.h>

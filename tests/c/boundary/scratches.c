@@ -90,7 +90,7 @@ static void one_method(struct search q, const uint32_t *places)
     }
 }
 
-/* A text of up to MORE_BITS bits more than the pattern, which occurs in it. */
+/* A text of fewer than MORE_BITS bits more than the pattern, which occurs in it. */
 static void one_length(uint64_t m)
 {
     uint8_t text[MOST_BYTES], pattern[MOST_BYTES] = {0};
