@@ -60,7 +60,7 @@ pub fn byte_inside(bytes: &[u8], p: Place) -> usize
 }
 
 // Eight whole bytes from byte b on, the first one highest: one machine load and a byte swap.
-fn eight_bytes(bytes: &[u8], b: ByteNo) -> u64
+pub fn eight_bytes(bytes: &[u8], b: ByteNo) -> u64
     requires { ⌜ b .0 + 8 ≤ length (now bytes) ⌝ }
     ensures { λ r. ⌜ r ≡ bitsAt (now (bytes .entry)) (b .0 * 8) 64 ⌝ }
 {

@@ -18,7 +18,7 @@ use Rattle.rules.specs.declared.Method.{Method}
 use Rattle.search.specs.declared.Outcome.{Outcome}
 use Rattle.search.specs.declared.Outcome.the-variants.{Accepted, Refused}
 use Rattle.search.specs.declared.Refusal.{Refusal}
-use Rattle.search.specs.declared.Refusal.the-variants.{TextTooLong, TextBytesMissing, PatternLength, PatternBytesMissing, PatternUnfit, BeyondEnd, ScratchTooShort}
+use Rattle.search.specs.declared.Refusal.the-variants.{TextTooLong, TextBytesMissing, PatternLength, PatternBytesMissing, FixedBytesMissing, PatternUnfit, BeyondEnd, ScratchTooShort}
 use Rattle.search.specs.Verdict.{refused, verdict, numberOfRefusal, Searched}
 use Rattle.search.specs.Calls as library
 use Rattle.search.proofs.Calls as theorem
@@ -40,6 +40,7 @@ not-zero TextTooLong = refl
 not-zero TextBytesMissing = refl
 not-zero PatternLength = refl
 not-zero PatternBytesMissing = refl
+not-zero FixedBytesMissing = refl
 not-zero PatternUnfit = refl
 not-zero BeyondEnd = refl
 not-zero ScratchTooShort = refl

@@ -31,6 +31,7 @@ callOf t w s q =
       text = t .bytes;
       n = t .count;
       pattern = w .bytes;
+      fixed = w .fixed;
       m = w .count;
       method = q .method;
       mark = s;

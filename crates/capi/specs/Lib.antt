@@ -1,11 +1,12 @@
 -- What each call for C and Rust promises, in reading order: what a call tells, then one definition for each call, with what
--- the scratch is to a search, the claim about the list file's writer and reader one after the other, the claim about every
+-- the scratch and the pattern's second run are to a search, the claim about the list file's writer and reader one after the other, the claim about every
 -- list of search calls, when such a list goes on, and the claim about the key that a finished search gives. The rules
 -- themselves are those of the crates below; only the numbers 100 and 101 are new here. `Inner` is what the private functions
 -- promise.
 pub mod Told
 pub mod Scan
 pub mod Scratch
+pub mod Wild
 pub mod EightBits
 pub mod ListFile
 pub mod Sitting

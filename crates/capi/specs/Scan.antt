@@ -34,11 +34,13 @@ stopNumber spent = 2
 
 -- ---- the search call
 
--- what the call is handed: two runs of bytes with their bit counts, numbers, and the buffers as they stand at entry
+-- what the call is handed: the bytes of text, pattern and second run with the bit counts, numbers, and the buffers as they stand at
+-- entry
 pub record Call : Type 0 where
   pub text : List ℕ
   pub n : ℕ
   pub pattern : List ℕ
+  pub fixed : List ℕ
   pub m : ℕ
   pub method : ℕ
   pub mark : ℕ
@@ -52,7 +54,7 @@ abbrev pub requestOf : Method → Call → Request
 requestOf x q =
     record {
       text = record { bytes = q .text; count = q .n };
-      pattern = record { bytes = q .pattern; count = q .m };
+      pattern = record { bytes = q .pattern; fixed = q .fixed; count = q .m };
       method = x;
       mark = q .mark;
       budget = q .budget;
@@ -60,7 +62,7 @@ requestOf x q =
       scratch = q .scratch;
     }
 
--- 100 first, then 101, then the search's own verdict: refusals 1 to 7, or what the machine comes to
+-- 100 first, then 101, then the search's own verdict: its refusals, or what the machine comes to
 abbrev pub verdictBy : Named → Call → Verdict Run
 verdictBy unknown q = refused unknownMethod
 verdictBy (known x) q = unlessCells 4 (q .answer) (refused answerCellsMissing) (verdict (requestOf x q))
@@ -101,10 +103,10 @@ abbrev pub numberTells : Verdict ℕ → Told
 numberTells (refused number) = refuses number
 numberTells (accepted d) = gives (d ∷ [])
 
--- What `mitongory_hash_value` tells: 101 first, then refusals 3 to 5, or H(B).
-unfoldable pub hashTold : List ℕ → ℕ → ℕ → List ℕ → Told
-hashTold pattern m value answer =
-    unlessCells 1 answer (refuses answerCellsMissing) (numberTells (hashVerdict (record { bytes = pattern; count = m }) value))
+-- What `mitongory_hash_value` tells: 101 first, then refusals 3, 4, 17 and 5, or H(B).
+unfoldable pub hashTold : List ℕ → List ℕ → ℕ → ℕ → List ℕ → Told
+hashTold pattern fixed m value answer =
+    unlessCells 1 answer (refuses answerCellsMissing) (numberTells (hashVerdict (record { bytes = pattern; fixed = fixed; count = m }) value))
 
 -- ---- the cells of scratch by themselves
 

@@ -15,6 +15,7 @@ withScratch q scratch =
       text = q .text;
       n = q .n;
       pattern = q .pattern;
+      fixed = q .fixed;
       m = q .m;
       method = q .method;
       mark = q .mark;

@@ -68,12 +68,14 @@ fn tell(outcome: Outcome, answer: &mut [u64]) -> u32
     }
 }
 
-// Lists the places from the mark on where the pattern of m bits stands in the first n bits of the text.
+// Lists the places from the mark on where the pattern of m bits stands in the first n bits of the text. A 0 in the second
+// run, `fixed`, makes a bit of the pattern wild.
 #[no_mangle]
 pub extern "C" fn mitongory_search(
     text: &[u8],
     n: u64,
     pattern: &[u8],
+    fixed: &[u8],
     m: u64,
     method: u32,
     mark: u32,
@@ -82,7 +84,7 @@ pub extern "C" fn mitongory_search(
     scratch: &mut [u64],
     answer: &mut [u64],
 ) -> u32
-    ensures { λ r. ⌜ Searches (record { text = now (text .entry); n = n; pattern = now (pattern .entry); m = m; method = method; mark = mark; budget = budget; list = now (list .entry); scratch = now (scratch .entry); answer = now (answer .entry) }) r (now (list .exit)) (now (scratch .exit)) (now (answer .exit)) ⌝ }
+    ensures { λ r. ⌜ Searches (record { text = now (text .entry); n = n; pattern = now (pattern .entry); fixed = now (fixed .entry); m = m; method = method; mark = mark; budget = budget; list = now (list .entry); scratch = now (scratch .entry); answer = now (answer .entry) }) r (now (list .exit)) (now (scratch .exit)) (now (answer .exit)) ⌝ }
 {
     let named = method_of(method);
     let Named::Known(known) = named else {
@@ -92,19 +94,25 @@ pub extern "C" fn mitongory_search(
         return ANSWER_CELLS_MISSING;
     }
     let from = Mark { at: Place(mark) };
-    let outcome = from.search(text, n, pattern, m, known, budget, list, scratch);
+    let outcome = from.search(text, n, pattern, fixed, m, known, budget, list, scratch);
     tell(outcome, answer)
 }
 
 // H(B) of the first m bits of the pattern.
 #[no_mangle]
-pub extern "C" fn mitongory_hash_value(pattern: &[u8], m: u64, value: u8, answer: &mut [u64]) -> u32
-    ensures { λ r. ⌜ Tells (hashTold (now (pattern .entry)) m value (now (answer .entry))) (now (answer .entry)) r (now (answer .exit)) ⌝ }
+pub extern "C" fn mitongory_hash_value(
+    pattern: &[u8],
+    fixed: &[u8],
+    m: u64,
+    value: u8,
+    answer: &mut [u64],
+) -> u32
+    ensures { λ r. ⌜ Tells (hashTold (now (pattern .entry)) (now (fixed .entry)) m value (now (answer .entry))) (now (answer .entry)) r (now (answer .exit)) ⌝ }
 {
     if answer.len() < 1 {
         return ANSWER_CELLS_MISSING;
     }
-    let hash = hash_value::hash_value(pattern, m, value);
+    let hash = hash_value::hash_value(pattern, fixed, m, value);
     match hash {
         HashAnswer::Refused(why) => why.number(),
         HashAnswer::Value(d) => cells::one(answer, d as u64),

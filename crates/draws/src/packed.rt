@@ -6,10 +6,17 @@ use crate::number::least_of;
 use crate::number::minus;
 use crate::number::plus;
 
-// Where the text begins, in bytes and in bits; the pattern begins at 0.
+// Where the text begins, in bytes and in bits; the pattern begins at 0. Then comes the pattern's second run, 1 for
+// fixed and 0 for wild, and then the end.
 pub const TEXT: usize = 260;
 
 pub const TEXT_BIT: usize = 2080;
+
+pub const FIXED: usize = 813;
+
+pub const FIXED_BIT: usize = 6504;
+
+pub const BYTES: usize = 1073;
 
 // Drawn bytes.
 pub fn fill(s: &mut [u8], x: usize) {
@@ -41,6 +48,20 @@ fn set_bit(s: &mut [u8], p: usize, b: u8) {
         let o = 7 - p % 8;
         s[i] = s[i] ^ (((s[i] >> o) % 2 ^ b) << o);
     }
+}
+
+// k bits from `at` on become b, which is 0 or 1.
+pub fn put_bits(s: &mut [u8], at: usize, k: usize, b: u8) {
+    let mut j: usize = 0;
+    while j < k {
+        set_bit(s, plus(at, j), b);
+        j += 1;
+    }
+}
+
+// Bit p becomes the other one where b is 1; b is 0 or 1.
+pub fn flip(s: &mut [u8], p: usize, b: u8) {
+    set_bit(s, p, bit(s, p) ^ b);
 }
 
 // Copies k bits, rising, so that bits that were just written are copied again where the two overlap: a period.

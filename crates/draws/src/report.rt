@@ -13,7 +13,7 @@ pub fn line(name: &[u8], count: usize) {
 // Prints the line of a kind; the answer is how many cases it has. A name has 32 bytes of room in `names`; in `counts` stand,
 // for each kind, where its name ends and how many cases it has.
 pub fn kind_line(names: &[u8], counts: &[usize], kind: usize) -> usize {
-    let k = kind % 16;
+    let k = kind % 32;
     let count = draw::entry(counts, 2 * k + 1);
     line(
         packed::part(names, 32 * k, draw::entry(counts, 2 * k)),
@@ -28,7 +28,7 @@ pub fn disagreement(names: &[u8], counts: &[usize], kind: usize, case: usize, go
     if good {
         return 0;
     }
-    let k = kind % 16;
+    let k = kind % 32;
     io::write_all(STDOUT_FILENO, b"disagreement: ");
     io::write_all(
         STDOUT_FILENO,

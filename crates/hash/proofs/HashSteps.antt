@@ -8,30 +8,32 @@ use mathlib.Core.List.{List, []}
 use native.Mathlib.Numerals.{one-add}
 use native.Mathlib.Decide.{decLe}
 use native.Mathlib.Omega.{arith}
+use lib.Bits.{bitAnd, bitXor}
 use lib.Dec.{eqb}
 use lib.ListN.{length, getD, set, List·getD-eq-default}
 use borrow.Author.Tests.{ltb-false, ne-eqb}
-use Rattle.bits.specs.Packed.{Packed, bitsAt}
+use Rattle.bits.specs.Packed.{Packed, bytesFor, bitsAt}
 use Rattle.bits.proofs.Run.{bits-lt}
 use Rattle.rules.specs.declared.Method.the-variants.{Hash}
 use Rattle.rules.specs.Ranges.{keep, least}
 use Rattle.rules.specs.Pattern.{Pattern}
-use Rattle.rules.specs.Occurrence.{places, matches}
+use Rattle.rules.specs.Occurrence.{places, Occurs, matches}
 use Rattle.rules.specs.Hash.{meets, hashOf, hashAgain, lastEight, hashFinds, hashNext}
 use Rattle.rules.specs.Step.{finds, ahead, next}
 use Rattle.matcher.specs.Progress.{Ready, GoodPattern, Stepped}
-use Rattle.rules.proofs.Occurrence.{occurs-inside}
-use Rattle.rules.proofs.Hash.{LeastMeeting, again-least, hash-compares}
+use Rattle.rules.proofs.Ranges.{not-true-false}
+use Rattle.rules.proofs.Occurrence.{matches-at, occurs-inside}
+use Rattle.rules.proofs.Hash.{LeastMeeting, again-least, occurs-meets, hash-compares}
 use Rattle.matcher.proofs.Writing.{alone-cut, alone-hit, alone-miss}
+use Rattle.hash.proofs.HashValues.{shown-whole}
 
 pub long-enough : (w : Pattern) → GoodPattern Hash w → 8 ≤ w .count
 long-enough w g = ltb-false (w .count) 8 (g .fit)
 
--- eight bits of the pattern lie inside its bytes
-pub eight-of-pattern : (w : Pattern) → GoodPattern Hash w → (p : ℕ) → p + 8 ≤ w .count
-    → (p + 8 ≤ length (w .bytes) * 8) × (p + 8 ≤ 2 ^ 32)
-eight-of-pattern w g p h =
-    let b = g .bytes-there in
+-- eight bits of the pattern lie inside its bytes, and those of the second run inside its own
+pub eight-of-run : (run : List ℕ) (w : Pattern) → GoodPattern Hash w → (p : ℕ) → p + 8 ≤ w .count → bytesFor (w .count) ≤ length run
+    → (p + 8 ≤ length run * 8) × (p + 8 ≤ 2 ^ 32)
+eight-of-run run w g p h b =
     let f = g .few-bits in
     (omega arith, omega arith)
 
@@ -101,6 +103,21 @@ module _ (t : Packed) (w : Pattern) (cells : List ℕ) (ready : Ready Hash t w c
       let f = ready .few-bits in
       let i = ready .inside in
       (omega arith, omega arith)
+
+  -- where these eight bits differ from the pattern's last at a fixed one, it does not stand
+  pub differs : {v last care : ℕ} (s : ℕ) → s < places t w → v ≡ bitsAt (t .bytes) (s + (w .count - 8)) 8
+      → last ≡ bitsAt (w .bytes) (w .count - 8) 8 → care ≡ bitsAt (w .fixed) (w .count - 8) 8
+      → (bitAnd (bitXor v last) care ≡ 0 → ⊥) → matches t w s ≡ false
+  unfolding lastEight
+  differs s inside ev el ec ne =
+      not-true-false _ (λ hit.
+      let l = long in
+      let at : s + w .count - 8 ≡ s + (w .count - 8) = omega arith in
+      let here : s + 0 ≡ s = omega arith in
+      let end : w .count - 8 - 0 ≡ w .count - 8 = omega arith in
+      let occurs : Occurs t w (s + 0) = rw here (record { inside = inside; same = matches-at t w s hit }) in
+      let met : meets w (bitsAt (t .bytes) (s + (w .count - 8)) 8) 0 ≡ true = rw at at (occurs-meets t w s l 0 occurs) in
+      ne (rw (ev, el, ec) (rw end at (shown-whole w (bitsAt (t .bytes) (s + (w .count - 8)) 8) 0 (omega arith) (bits-lt (t .bytes) (s + (w .count - 8)) 8) .0 met))))
 
   -- a step finds its place just where the pattern stands
   pub step-finds : (s : ℕ) → s < places t w → finds Hash t w s ≡ keep (matches t w s) s []

@@ -1,5 +1,5 @@
--- How the hash method's table is made, a move less at a time: first the moves at which fewer than eight bits are asked,
--- by doubling, then those at which the pattern shows the whole value.
+-- How the hash method's table is made where no bit of the pattern is wild, a move less at a time: first the moves at which
+-- fewer than eight bits are asked, by doubling, then those at which the pattern shows the whole value.
 -- Assumes nothing.
 use Prim.Native.Nat.{ℕ, suc, _+_, _-_, _*_, _/_, _%_, _^_, _≤_, _<_}
 use mathlib.Core.Path.{_≡_, refl, sym, ap, ap₂, _∙_}
@@ -10,19 +10,70 @@ use native.Mathlib.Nat.{mod-eq-of-lt, mul-add-mod-self-right}
 use native.Mathlib.Numerals.{add-one}
 use native.Mathlib.Decide.{decLe, ℕ-discrete}
 use native.Mathlib.Omega.{arith}
-use lib.Pow.{pow-mono, pow-add}
+use lib.Dec.{eqb}
+use lib.Pow.{pow-mono, pow-add, high, ones-lt, ones-split}
+use borrow.Author.Tests.{eqb-true, eq-eqb}
 use lib.ListN.{length, getD, set, drop, take, length-set, List·getD-append}
 use lib.Seq.{paste, getD-set-same, getD-set-other, getD-take, getD-append-add, length-take-le, length-paste-head, length-paste, drop-set-lt, drop-paste, drop-drop}
-use Rattle.bits.specs.Packed.{bitsAt}
-use Rattle.bits.proofs.Run.{bits-lt, bits-first}
+use Rattle.bits.specs.Packed.{bitAt, bitsAt, bitOf}
+use Rattle.bits.proofs.Weight.{weight-ones, same-weights}
+use Rattle.bits.proofs.Run.{bits-lt, bits-first, bit-of-bits, weight-of-bits}
 use Rattle.rules.specs.declared.Method.the-variants.{Hash}
 use Rattle.rules.specs.Ranges.{least}
-use Rattle.rules.specs.Pattern.{Pattern}
+use Rattle.rules.specs.Pattern.{Pattern, isFixed}
+use Rattle.rules.specs.Wild.{AllFixed}
 use Rattle.rules.specs.Hash.{meets, hashAgain}
 use Rattle.hash.specs.HashMoves.{Moves, Entered}
 use Rattle.matcher.specs.Tables.{Prepared}
 use Rattle.rules.proofs.Ranges.{same-test, not-true-false, least-same}
+use Rattle.rules.proofs.Pattern.{fixed-iff}
 use Rattle.rules.proofs.Hash.{meets-load, meets-all}
+
+-- Whether no bit is wild
+
+-- k bits of a run from p on are ones just if the load is
+ones-load : (run : List ℕ) (p k : ℕ) → (bitsAt run p k ≡ 2 ^ k - 1) ↔ ((j : ℕ) → j < k → bitAt run (p + j) ≡ 1)
+ones-load run p k = (
+  λ e j l. sym (bit-of-bits run p l) ∙ ap (λ (x : ℕ). bitOf k x j) e ∙ weight-ones k (k - 1 - j) (omega arith),
+  λ h. same-weights k _ _ (bits-lt run p k) (ones-lt k) (λ i l. weight-of-bits run p l ∙ h (k - 1 - i) (omega arith) ∙ sym (weight-ones k i l)),
+)
+
+-- the bits below o are fixed
+abbrev pub FixedTo : Pattern → ℕ → Type 0
+FixedTo w o = (j : ℕ) → j < o → isFixed w j ≡ true
+
+module _ (w : Pattern) (o k : ℕ) where
+  pub fixed-more : FixedTo w o → bitsAt (w .fixed) o k ≡ 2 ^ k - 1 → FixedTo w (o + k)
+  fixed-more below e j l = go (decLe o j)
+    where
+      go : Dec (o ≤ j) → isFixed w j ≡ true
+      go (no n) = below j (omega arith)
+      go (yes h) =
+          let there : o + (j - o) ≡ j = omega arith in
+          fixed-iff w j .1 (rw there at (ones-load (w .fixed) o k .0 e (j - o) (omega arith)))
+
+  pub fixed-load : AllFixed w → o + k ≤ w .count → bitsAt (w .fixed) o k ≡ 2 ^ k - 1
+  fixed-load fixed h = ones-load (w .fixed) o k .1 (λ j l. fixed-iff w (o + j) .0 (fixed (o + j) (omega arith)))
+
+-- the last load, of which the bits before m count
+module _ (w : Pattern) (o : ℕ) (below : FixedTo w o) (inside : o < w .count) (last : w .count ≤ o + 64) where
+  ones-first : 18446744073709551615 / 2 ^ (64 - (w .count - o)) ≡ 2 ^ (w .count - o) - 1
+  ones-first =
+      let whole : w .count - o + (64 - (w .count - o)) ≡ 64 = omega arith in
+      ap (λ (n : ℕ). (2 ^ n - 1) / 2 ^ (64 - (w .count - o))) (sym whole)
+      ∙ ap (λ (x : ℕ). x / 2 ^ (64 - (w .count - o))) (ones-split (w .count - o) (64 - (w .count - o)))
+      ∙ high (2 ^ (w .count - o) - 1) (64 - (w .count - o)) (ones-lt (64 - (w .count - o)))
+
+  pub fixed-last : {x : ℕ} → x ≡ bitsAt (w .fixed) o 64
+      → (eqb (x / 2 ^ (64 - (w .count - o))) (18446744073709551615 / 2 ^ (64 - (w .count - o))) ≡ true) ↔ AllFixed w
+  fixed-last {x} e =
+      let first : x / 2 ^ (64 - (w .count - o)) ≡ bitsAt (w .fixed) o (w .count - o) =
+      ap (λ (y : ℕ). y / 2 ^ (64 - (w .count - o))) e ∙ bits-first (w .fixed) o {j = w .count - o} {k = 64} (omega arith) in (
+        λ t j l. fixed-more w o (w .count - o) below (sym first ∙ eqb-true _ _ t ∙ ones-first) j (omega arith),
+        λ f. eq-eqb _ _ (first ∙ fixed-load w o (w .count - o) f (omega arith) ∙ sym ones-first),
+      )
+
+-- The moves
 
 module _ (f : ℕ → Bool) (i k : ℕ) where
   least-met : f i ≡ true → least f i (suc k) ≡ i
@@ -33,15 +84,33 @@ module _ (f : ℕ → Bool) (i k : ℕ) where
   unfolding least
   least-unmet h = rw h
 
-module _ (w : Pattern) where
+module _ (w : Pattern) (fixed : AllFixed w) where
   -- a value of k bits meets the condition at d just if it is the pattern's k bits from p on
   pub meets-value : (B d k p : ℕ) → p + k + d ≡ w .count → k ≤ 8 → (k < 8 → p ≡ 0) → B < 2 ^ k
       → (meets w B d ≡ true) ↔ (B ≡ bitsAt (w .bytes) p k)
   meets-value B d k p size few first h =
-      let r = meets-load w B d k p size few first in
+      let r = meets-load w B d k p size few first (λ j l. fixed (p + j) (omega arith)) in
       let whole : B % 2 ^ k ≡ B = mod-eq-of-lt h in
       (λ e. sym whole ∙ r .0 e, λ e. r .1 (whole ∙ e))
 
+  -- 2^j more changes no bit that the condition asks at d, where that is j bits or fewer
+  meets-more : (B d j : ℕ) → d ≤ w .count → w .count ≤ d + j → j ≤ 8 → meets w (2 ^ j + B) d ≡ meets w B d
+  meets-more B d j h l few =
+      let size : 0 + (w .count - d) + d ≡ w .count = omega arith in
+      let a = meets-load w (2 ^ j + B) d (w .count - d) 0 size (omega arith) (λ x. refl) (λ i l. fixed (0 + i) (omega arith)) in
+      let b = meets-load w B d (w .count - d) 0 size (omega arith) (λ x. refl) (λ i l. fixed (0 + i) (omega arith)) in
+      same-test _ _ (λ e. b .1 (sym rest ∙ a .0 e)) (λ e. a .1 (rest ∙ b .0 e))
+    where
+      k : ℕ
+      k = w .count - d
+
+      power : 2 ^ j ≡ 2 ^ (j - k) * 2 ^ k
+      power = let parts : j ≡ (j - k) + k = omega arith in ap (λ (n : ℕ). 2 ^ n) parts ∙ pow-add 2 (j - k) k
+
+      rest : (2 ^ j + B) % 2 ^ k ≡ B % 2 ^ k
+      rest = ap (λ (x : ℕ). (x + B) % 2 ^ k) power ∙ mul-add-mod-self-right (2 ^ (j - k)) (2 ^ k) B
+
+module _ (w : Pattern) where
   -- the greatest move: no bit is asked
   pub moves-last : (cells : List ℕ) → 0 < length cells → Moves w 1 (w .count) 1 (set cells 0 (w .count))
   moves-last cells h B l =
@@ -64,23 +133,6 @@ module _ (w : Pattern) where
           getD-set-other cells v B d 0 n
           ∙ f B l
           ∙ sym (least-unmet (meets w B) d k (not-true-false _ (λ e. n (one B l .0 e))))
-
-  -- 2^j more changes no bit that the condition asks at d, where that is j bits or fewer
-  meets-more : (B d j : ℕ) → d ≤ w .count → w .count ≤ d + j → j ≤ 8 → meets w (2 ^ j + B) d ≡ meets w B d
-  meets-more B d j h l few =
-      let size : 0 + (w .count - d) + d ≡ w .count = omega arith in
-      let a = meets-load w (2 ^ j + B) d (w .count - d) 0 size (omega arith) (λ x. refl) in
-      let b = meets-load w B d (w .count - d) 0 size (omega arith) (λ x. refl) in
-      same-test _ _ (λ e. b .1 (sym rest ∙ a .0 e)) (λ e. a .1 (rest ∙ b .0 e))
-    where
-      k : ℕ
-      k = w .count - d
-
-      power : 2 ^ j ≡ 2 ^ (j - k) * 2 ^ k
-      power = let parts : j ≡ (j - k) + k = omega arith in ap (λ (n : ℕ). 2 ^ n) parts ∙ pow-add 2 (j - k) k
-
-      rest : (2 ^ j + B) % 2 ^ k ≡ B % 2 ^ k
-      rest = ap (λ (x : ℕ). (x + B) % 2 ^ k) power ∙ mul-add-mod-self-right (2 ^ (j - k)) (2 ^ k) B
 
 -- the first cells and their copy
 module _ (cells : List ℕ) (size k : ℕ) (room : size + k ≤ length cells) (i : ℕ) where
@@ -109,9 +161,9 @@ paste-rest cells size n room h =
     ∙ drop-drop (n - (size + size)) (size + size) cells)
 
 -- Where each condition from d on asks j bits or fewer, the cells of 2^j values serve twice as many.
-pub moves-double : (w : Pattern) (d k j size : ℕ) (cells : List ℕ) → size ≡ 2 ^ j → size + size ≤ length cells → Moves w size d k cells
+pub moves-double : (w : Pattern) → AllFixed w → (d k j size : ℕ) (cells : List ℕ) → size ≡ 2 ^ j → size + size ≤ length cells → Moves w size d k cells
     → d + k ≡ suc (w .count) → w .count ≤ d + j → j ≤ 8 → Moves w (size + size) d k (paste cells size cells size)
-moves-double w d k j size cells power room f top low few B h = go (decLe size B)
+moves-double w fixed d k j size cells power room f top low few B h = go (decLe size B)
   where
     go : Dec (size ≤ B) → getD (paste cells size cells size) B 0 ≡ least (meets w B) d k
     go (no n) = paste-front cells size size room B (omega arith) ∙ f B (omega arith)
@@ -122,7 +174,7 @@ moves-double w d k j size cells power room f top low few B h = go (decLe size B)
         ∙ paste-copy cells size size room (B - size) (omega arith)
         ∙ f (B - size) (omega arith)
         ∙ sym (ap (λ (i : ℕ). least (meets w i) d k) more
-        ∙ least-same (meets w (2 ^ j + (B - size))) (meets w (B - size)) d k (λ p a b. meets-more w (B - size) p j (omega arith) (omega arith) few))
+        ∙ least-same (meets w (2 ^ j + (B - size))) (meets w (B - size)) d k (λ p a b. meets-more w fixed (B - size) p j (omega arith) (omega arith) few))
 
 -- The table while only the pattern's first bits are asked, before turn k: the cells of k − 1 bits are made.
 pub record Ends (w : Pattern) (before cells : List ℕ) (size k : ℕ) : Type 0 where
@@ -146,7 +198,7 @@ ends-none w cells room =
       rest = refl;
     }
 
-module _ (w : Pattern) (long : 8 ≤ w .count) (before : List ℕ) (room : 256 ≤ length before) where
+module _ (w : Pattern) (fixed : AllFixed w) (long : 8 ≤ w .count) (before : List ℕ) (room : 256 ≤ length before) where
   module _ (cells : List ℕ) (size k : ℕ) (u : Ends w before cells size k) where
     pub ends-small : size ≤ 128
     ends-small = rw (u .power) (pow-mono {i = k - 1} {j = 7} (omega (arith, u .high)))
@@ -165,7 +217,7 @@ module _ (w : Pattern) (long : 8 ≤ w .count) (before : List ℕ) (room : 256 �
     doubled =
         let l = u .low in
         let h = u .high in
-        moves-double w (suc (w .count) - k) k (k - 1) size cells (u .power) fits (u .moves) (omega arith) (omega arith) (omega arith)
+        moves-double w fixed (suc (w .count) - k) k (k - 1) size cells (u .power) fits (u .moves) (omega arith) (omega arith) (omega arith)
 
     doubled-size : length (paste cells size cells size) ≡ length before
     doubled-size = length-paste cells size cells size fits (omega (arith, fits)) ∙ u .same-size
@@ -212,27 +264,27 @@ module _ (w : Pattern) (long : 8 ≤ w .count) (before : List ℕ) (room : 256 �
             moves-set w (size + size) (w .count - k) k v (paste cells size cells size)
             (λ B l. rw before-it at (doubled B l))
             (omega (arith, below, fits, doubled-size, u .same-size))
-            (λ B l. rw there (meets-value w B (w .count - k) k 0 (omega arith) (omega arith) (λ x. refl) (rw twice at l)))
+            (λ B l. rw there (meets-value w fixed B (w .count - k) k 0 (omega arith) (omega arith) (λ x. refl) (rw twice at l)))
 
 -- all turns are made, and the last copy: the moves above m − 8 are entered
-pub ends-made : (w : Pattern) → 8 ≤ w .count → (before : List ℕ) → 256 ≤ length before → (cells : List ℕ) (size k : ℕ)
+pub ends-made : (w : Pattern) → AllFixed w → 8 ≤ w .count → (before : List ℕ) → 256 ≤ length before → (cells : List ℕ) (size k : ℕ)
     → Ends w (set before 0 (w .count)) cells size k → k ≡ 8 → Entered w before (paste cells size cells size) (w .count - 8)
-ends-made w long before room cells size k u last =
+ends-made w fixed long before room cells size k u last =
     let size-set : length (set before 0 (w .count)) ≡ length before = length-set before 0 (w .count) in
     let room-set : 256 ≤ length (set before 0 (w .count)) = omega arith in
-    let all : size + size ≡ 256 = twice w long _ room-set cells size k u ∙ ap (λ (n : ℕ). 2 ^ n) last in
+    let all : size + size ≡ 256 = twice w fixed long _ room-set cells size k u ∙ ap (λ (n : ℕ). 2 ^ n) last in
     let from : suc (w .count) - k ≡ suc (w .count - 8) = omega arith in
     let number : k ≡ w .count - (w .count - 8) = omega arith in
     record {
-      moves = λ B l. doubled w long _ room-set cells size k u B (rw all l) ∙ ap₂ (least (meets w B)) from number;
-      size = doubled-size w long _ room-set cells size k u ∙ size-set;
-      rest = doubled-rest w long _ room-set cells size k u ∙ drop-set-lt 256 before 0 (w .count) (omega arith);
+      moves = λ B l. doubled w fixed long _ room-set cells size k u B (rw all l) ∙ ap₂ (least (meets w B)) from number;
+      size = doubled-size w fixed long _ room-set cells size k u ∙ size-set;
+      rest = doubled-rest w fixed long _ room-set cells size k u ∙ drop-set-lt 256 before 0 (w .count) (omega arith);
     }
 
 -- one move less: it goes to the value that the pattern shows d before its last eight bits
-pub entered-more : (w : Pattern) (before cells : List ℕ) (d v : ℕ) → Entered w before cells d → 256 ≤ length before → 0 < d
+pub entered-more : (w : Pattern) → AllFixed w → (before cells : List ℕ) (d v : ℕ) → Entered w before cells d → 256 ≤ length before → 0 < d
     → d + 8 ≤ w .count → v ≡ bitsAt (w .bytes) (w .count - 8 - d) 8 → Entered w before (set cells v d) (d - 1)
-entered-more w before cells d v u room h top e =
+entered-more w fixed before cells d v u room h top e =
     record {
       moves = λ B l. rw (this, more) (set-in B l);
       size = length-set cells v d ∙ u .size;
@@ -251,7 +303,7 @@ entered-more w before cells d v u room h top e =
     set-in : Moves w 256 d (suc (w .count - d)) (set cells v d)
     set-in =
         moves-set w 256 d (w .count - d) v cells (u .moves) (omega (arith, below, u .size))
-        (λ B l. rw e (meets-value w B d 8 (w .count - 8 - d) (omega arith) (omega arith) (λ x. absurd (omega arith)) l))
+        (λ B l. rw e (meets-value w fixed B d 8 (w .count - 8 - d) (omega arith) (omega arith) (λ x. absurd (omega arith)) l))
 
 -- the same, whatever was before
 pub entered-here : {w : Pattern} {before cells : List ℕ} {d : ℕ} → Entered w before cells d → Entered w cells cells d
@@ -263,13 +315,12 @@ pub entered-then : {w : Pattern} {before middle cells : List ℕ} {d e : ℕ} �
 entered-then u v = record { moves = v .moves; size = v .size ∙ u .size; rest = v .rest ∙ u .rest }
 
 -- all are entered: the least move from 1 on is what the table holds
-pub entered-all : (w : Pattern) (before cells : List ℕ) (d : ℕ) → Entered w before cells d → d ≡ 0 → Prepared Hash w before cells
+pub entered-all : (w : Pattern) (before cells : List ℕ) → Entered w before cells 0 → Prepared Hash w before cells
 unfolding hashAgain
-entered-all w before cells d u none =
-    let one : suc d ≡ 1 = omega arith in
-    let all : w .count - d ≡ w .count = omega arith in
+entered-all w before cells u =
+    let all : w .count - 0 ≡ w .count = omega arith in
     record {
-      tables = record { move-is = λ B l. rw (one, all) at (u .moves B l) };
+      tables = record { move-is = λ B l. rw all at (u .moves B l) };
       size = u .size;
-      rest = u .rest;
+      rest = sym (drop-drop 256 256 cells) ∙ ap (drop 256) (u .rest) ∙ drop-drop 256 256 before;
     }

@@ -1,4 +1,7 @@
 -- The laws of the hash method's tables and steps.
-pub mod HashSteps
-pub mod HashTables
 pub mod HashValues
+pub mod HashTables
+pub mod HashBits
+pub mod HashWords
+pub mod HashRows
+pub mod HashSteps

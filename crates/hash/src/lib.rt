@@ -6,18 +6,24 @@ use bits::load;
 use matcher::Advance;
 use matcher::Found;
 use matcher::compare;
-use matcher::compare::Head;
+use matcher::compare::Known;
 use rules::Method;
 ghost use mathlib.Core.Path.{_≡_};
-ghost use Prim.Native.Nat.{_+_, _-_, _≤_, _<_};
-ghost use lib.ListN.{length};
+ghost use mathlib.Core.Logic.{_↔_};
+ghost use mathlib.Core.Bool.{true};
+ghost use Prim.Native.Nat.{ℕ, _+_, _-_, _*_, _^_, _≤_, _<_};
+ghost use lib.ListN.{length, getD};
 ghost use lib.Seq.{paste};
+ghost use Rattle.rules.specs.Wild.{AllFixed};
 ghost use Rattle.rules.specs.Occurrence.{places};
 ghost use Rattle.rules.specs.Step.{next};
 ghost use Rattle.hash.specs.HashMoves.{Entered};
+ghost use Rattle.hash.specs.HashWords.{Ending, Words, Only, Paired, RowMade, RowsMade, AllUnset};
 ghost use Rattle.rules.specs.Scratch.{scratchCells};
 ghost use Rattle.matcher.specs.Tables.{Prepared};
-ghost use Rattle.matcher.specs.Progress.{textOf, patternOf, HeadOf, GoodPattern, Ready, Stepped, Advanced};
+ghost use Rattle.matcher.specs.Progress.{patternOf, textIn, patternIn, HeadOf, GoodPattern, Ready, Stepped, Advanced};
+
+const ALL: u64 = 18446744073709551615;
 
 // The first cells once more after themselves.
 fn double(cells: &mut [u64], size: usize)
@@ -33,10 +39,11 @@ fn double(cells: &mut [u64], size: usize)
 
 // The moves from m − 7 up, at which the pattern's first bits are the value's last. Before turn k the first 2^(k − 1) cells
 // hold the moves above m − k, and a value has that of the cell that its last k − 1 bits number.
-fn prepare_ends(pattern: &[u8], m: u32, cells: &mut [u64])
-    requires { ⌜ GoodPattern Method.Hash (patternOf (now pattern) m) ⌝ }
+fn prepare_ends(pattern: &[u8], fixed: &[u8], m: u32, cells: &mut [u64])
+    requires { ⌜ GoodPattern Method.Hash (patternOf (now pattern) (now fixed) m) ⌝ }
+    requires { ⌜ AllFixed (patternOf (now pattern) (now fixed) m) ⌝ }
     requires { ⌜ 256 ≤ length (now cells) ⌝ }
-    ensures { λ _. ⌜ Entered (patternOf (now (pattern .entry)) m) (now (cells .entry)) (now (cells .exit)) (m - 8) ⌝ }
+    ensures { λ _. ⌜ Entered (patternOf (now (pattern .entry)) (now (fixed .entry)) m) (now (cells .entry)) (now (cells .exit)) (m - 8) ⌝ }
 {
     let first = load::byte_at(pattern, Place(0));
     cells[0] = m as u64;
@@ -52,10 +59,11 @@ fn prepare_ends(pattern: &[u8], m: u32, cells: &mut [u64])
 }
 
 // The moves d, d − 1, .. of k values that the pattern shows whole, one after the other in one load.
-fn enter(pattern: &[u8], m: u32, d: u32, k: u32, cells: &mut [u64])
+fn enter(pattern: &[u8], fixed: &[u8], m: u32, d: u32, k: u32, cells: &mut [u64])
     requires { ⌜ (d + 8 ≤ m) × (k ≤ d) × (k ≤ 57) × (256 ≤ length (now cells)) ⌝ }
-    requires { ⌜ Entered (patternOf (now pattern) m) (now cells) (now cells) d ⌝ }
-    ensures { λ _. ⌜ Entered (patternOf (now (pattern .entry)) m) (now (cells .entry)) (now (cells .exit)) (d - k) ⌝ }
+    requires { ⌜ AllFixed (patternOf (now pattern) (now fixed) m) ⌝ }
+    requires { ⌜ Entered (patternOf (now pattern) (now fixed) m) (now cells) (now cells) d ⌝ }
+    ensures { λ _. ⌜ Entered (patternOf (now (pattern .entry)) (now (fixed .entry)) m) (now (cells .entry)) (now (cells .exit)) (d - k) ⌝ }
 {
     let mut x = load::word_at(pattern, Place(m - 8 - d));
     let mut r = 0u32;
@@ -66,52 +74,206 @@ fn enter(pattern: &[u8], m: u32, d: u32, k: u32, cells: &mut [u64])
     }
 }
 
-// All moves, the greatest first: the least one of a value is entered last.
-pub fn prepare(pattern: &[u8], m: u32, cells: &mut [u64])
-    requires { ⌜ GoodPattern Method.Hash (patternOf (now pattern) m) ⌝ }
-    requires { ⌜ scratchCells Method.Hash m ≤ length (now cells) ⌝ }
-    ensures { λ _. ⌜ Prepared Method.Hash (patternOf (now (pattern .entry)) m) (now (cells .entry)) (now (cells .exit)) ⌝ }
+// All moves of a pattern without wild bits, the greatest first: the least one of a value is entered last.
+fn prepare_fixed(pattern: &[u8], fixed: &[u8], m: u32, cells: &mut [u64])
+    requires { ⌜ GoodPattern Method.Hash (patternOf (now pattern) (now fixed) m) ⌝ }
+    requires { ⌜ AllFixed (patternOf (now pattern) (now fixed) m) ⌝ }
+    requires { ⌜ 256 ≤ length (now cells) ⌝ }
+    ensures { λ _. ⌜ Entered (patternOf (now (pattern .entry)) (now (fixed .entry)) m) (now (cells .entry)) (now (cells .exit)) 0 ⌝ }
 {
-    prepare_ends(pattern, m, cells);
+    prepare_ends(pattern, fixed, m, cells);
     let mut d = m - 8;
     while 57 < d {
-        enter(pattern, m, d, 57, cells);
+        enter(pattern, fixed, m, d, 57, cells);
         d -= 57;
     }
-    enter(pattern, m, d, d, cells);
+    enter(pattern, fixed, m, d, d, cells);
+}
+
+// The 64 bits of a run that end d bits before its bit m, those before its first bit 0.
+fn ending(run: &[u8], m: u32, d: u32) -> u64
+    requires { ⌜ d < m ⌝ }
+    ensures { λ r. ⌜ Ending (now (run .entry)) m d r ⌝ }
+{
+    let left = m - d;
+    if left < 64 {
+        return load::word_at(run, Place(0)) >> (64 - left);
+    }
+    load::word_at(run, Place(left - 64))
+}
+
+// With wild bits many values meet the condition at one move. So the moves are taken 56 at a time: bit e of a word stands for the
+// move d + e, and the word of a value of k bits has a 1 where the pattern agrees with it there. The cells from ONE on have the
+// words of one bit, those from TWO on the words of two and those from FOUR on the words of four. A bit of cell UNSET + h stands
+// for a value whose first four bits are h, and is 1 while that has no move.
+const ONE: usize = 256;
+
+const TWO: usize = 258;
+
+const FOUR: usize = 262;
+
+const UNSET: usize = 278;
+
+// From the words of k bits those of 2 k: the word of the last k bits, and that of the first k, moved by k.
+fn pair_up(cells: &mut [u64], from: usize, to: usize, size: usize, k: u32)
+    requires { ⌜ (k < 64) × (size ≡ 2 ^ k) × (from + size ≤ to) × (to + size * size ≤ length (now cells)) ⌝ }
+    ensures { λ _. ⌜ Paired k from to (now (cells .entry)) (now (cells .exit)) ⌝ }
+{
+    let mut x = 0usize;
+    while x < size * size {
+        cells[to + x] = cells[from + (x & (size - 1))] & (cells[from + (x >> k)] >> k);
+        x += 1;
+    }
+}
+
+// The words of four bits for the moves from d on.
+fn line_up(pattern: &[u8], fixed: &[u8], m: u32, d: u32, cells: &mut [u64])
+    requires { ⌜ (d < m) × (512 ≤ length (now cells)) ⌝ }
+    ensures { λ _. ⌜ Words (patternOf (now (pattern .entry)) (now (fixed .entry)) m) d 4 262 (now (cells .exit)) × Only 256 278 (now (cells .entry)) (now (cells .exit)) ⌝ }
+{
+    let p = ending(pattern, m, d);
+    let f = ending(fixed, m, d);
+    cells[ONE] = (p & f) ^ ALL;
+    cells[ONE + 1] = (f & (p ^ ALL)) ^ ALL;
+    pair_up(cells, ONE, TWO, 2, 1);
+    pair_up(cells, TWO, FOUR, 4, 2);
+}
+
+// The moves d + 1 to d + 56 of the 16 values whose first four bits are `high`, for those in `unset` that have none yet: each gets
+// the least at which the words of its two halves agree. The answer has those that are left.
+fn settle_row(cells: &mut [u64], high: usize, unset: u64, d: u32) -> u64
+    requires { ⌜ (high < 16) × (unset < 2 ^ 16) × (d ≤ 2048) × (512 ≤ length (now cells)) ⌝ }
+    ensures { λ r. ⌜ RowMade d high unset (now (cells .entry)) r (now (cells .exit)) ⌝ }
+{
+    let later = cells[FOUR + high] >> 5;
+    if later == 0 {
+        return unset;
+    }
+    let mut left = unset;
+    let mut kept = unset;
+    while left != 0 {
+        let low = u64::trailing_zeros(left) as usize;
+        left = left & (left - 1);
+        let moves = (cells[FOUR + low] >> 1) & later;
+        if moves != 0 {
+            cells[16 * high + low] = (d + 1 + u64::trailing_zeros(moves)) as u64;
+            kept = kept ^ (1 << low);
+        }
+    }
+    kept
+}
+
+// The moves d + 1 to d + 56 of all values. Where the answer is 0 each has its move.
+fn settle(cells: &mut [u64], d: u32) -> u64
+    requires { ⌜ (d ≤ 2048) × (512 ≤ length (now cells)) ⌝ }
+    requires { ⌜ ((high : ℕ) → high < 16 → getD (now cells) (278 + high) 0 < 2 ^ 16) ⌝ }
+    ensures { λ r. ⌜ RowsMade d (now (cells .entry)) r (now (cells .exit)) ⌝ }
+{
+    let mut unset = 0u64;
+    let mut high = 0usize;
+    while high < 16 {
+        let before = cells[UNSET + high];
+        let kept = settle_row(cells, high, before, d);
+        cells[UNSET + high] = kept;
+        unset = unset | kept;
+        high += 1;
+    }
+    unset
+}
+
+// No cell has its move yet.
+fn unset_all(cells: &mut [u64])
+    requires { ⌜ 512 ≤ length (now cells) ⌝ }
+    ensures { λ _. ⌜ AllUnset (now (cells .entry)) (now (cells .exit)) ⌝ }
+{
+    let mut high = 0usize;
+    while high < 16 {
+        cells[UNSET + high] = 65535;
+        high += 1;
+    }
+}
+
+// All moves of any pattern, the least first, until each value has one.
+fn prepare_wild(pattern: &[u8], fixed: &[u8], m: u32, cells: &mut [u64])
+    requires { ⌜ GoodPattern Method.Hash (patternOf (now pattern) (now fixed) m) ⌝ }
+    requires { ⌜ 512 ≤ length (now cells) ⌝ }
+    ensures { λ _. ⌜ Prepared Method.Hash (patternOf (now (pattern .entry)) (now (fixed .entry)) m) (now (cells .entry)) (now (cells .exit)) ⌝ }
+{
+    unset_all(cells);
+    let mut d = 0u32;
+    let mut unset = 1u64;
+    while d < m && unset != 0 {
+        line_up(pattern, fixed, m, d, cells);
+        unset = settle(cells, d);
+        d += 56;
+    }
+}
+
+// Whether no bit of the pattern is wild.
+fn all_fixed(pattern: &[u8], fixed: &[u8], m: u32) -> bool
+    requires { ⌜ (0 < m) × (m ≤ 2048) ⌝ }
+    ensures { λ r. ⌜ (r ≡ true) ↔ AllFixed (patternOf (now (pattern .entry)) (now (fixed .entry)) m) ⌝ }
+{
+    let mut o = 0u32;
+    while o + 64 < m {
+        if load::word_at_byte(fixed, Place(o).byte()) != ALL {
+            return false;
+        }
+        o += 64;
+    }
+    load::word_at_byte(fixed, Place(o).byte()) >> (64 - (m - o)) == ALL >> (64 - (m - o))
+}
+
+// The table: the quick way for a pattern without wild bits.
+pub fn prepare(pattern: &[u8], fixed: &[u8], m: u32, cells: &mut [u64])
+    requires { ⌜ GoodPattern Method.Hash (patternOf (now pattern) (now fixed) m) ⌝ }
+    requires { ⌜ scratchCells Method.Hash m ≤ length (now cells) ⌝ }
+    ensures { λ _. ⌜ Prepared Method.Hash (patternOf (now (pattern .entry)) (now (fixed .entry)) m) (now (cells .entry)) (now (cells .exit)) ⌝ }
+{
+    if all_fixed(pattern, fixed, m) {
+        prepare_fixed(pattern, fixed, m, cells);
+    } else {
+        prepare_wild(pattern, fixed, m, cells);
+    }
 }
 
 // The next mark after s, cut at the number of places.
-fn next_mark(text: &[u8], n: u32, pattern: &[u8], m: u32, cells: &[u64], s: Place) -> u32
-    requires { ⌜ Ready Method.Hash (textOf (now text) n) (patternOf (now pattern) m) (now cells) ⌝ }
-    requires { ⌜ s .0 < places (textOf (now text) n) (patternOf (now pattern) m) ⌝ }
-    ensures { λ r. ⌜ r ≡ next Method.Hash (textOf (now (text .entry)) n) (patternOf (now (pattern .entry)) m) (s .0) ⌝ }
+fn next_mark(
+    text: &[u8],
+    pattern: &[u8],
+    fixed: &[u8],
+    known: Known,
+    cells: &[u64],
+    s: Place,
+) -> u32
+    requires { ⌜ Ready Method.Hash (textIn (now text) known) (patternIn (now pattern) (now fixed) known) (now cells) ⌝ }
+    requires { ⌜ s .0 < places (textIn (now text) known) (patternIn (now pattern) (now fixed) known) ⌝ }
+    ensures { λ r. ⌜ r ≡ next Method.Hash (textIn (now (text .entry)) known) (patternIn (now (pattern .entry)) (now (fixed .entry)) known) (s .0) ⌝ }
 {
     let at = s.0;
-    let v = load::byte_inside(text, Place(at + (m - 8)));
+    let v = load::byte_inside(text, Place(at + (known.m - 8)));
     let far = at + cells[v] as u32;
-    matcher::cut(far, n - m + 1)
+    matcher::cut(far, known.n - known.m + 1)
 }
 
 // One step: the place is found just if the pattern stands there.
 pub fn step(
     text: &[u8],
-    n: u32,
     pattern: &[u8],
-    m: u32,
-    h: Head,
+    fixed: &[u8],
+    known: Known,
     cells: &[u64],
     s: Place,
     list: &mut [u32],
     had: usize,
 ) -> Found
-    requires { ⌜ Ready Method.Hash (textOf (now text) n) (patternOf (now pattern) m) (now cells) ⌝ }
-    requires { ⌜ HeadOf (patternOf (now pattern) m) (h .bits) (h .cut) ⌝ }
-    requires { ⌜ (s .0 < places (textOf (now text) n) (patternOf (now pattern) m)) × (had ≤ length (now list)) ⌝ }
-    ensures { λ r. ⌜ Stepped Method.Hash (textOf (now (text .entry)) n) (patternOf (now (pattern .entry)) m) (s .0) (now (list .entry)) had (r .at .0) (r .hits) (r .full) (now (list .exit)) ⌝ }
+    requires { ⌜ Ready Method.Hash (textIn (now text) known) (patternIn (now pattern) (now fixed) known) (now cells) ⌝ }
+    requires { ⌜ HeadOf (patternIn (now pattern) (now fixed) known) (known .head) (known .mask) ⌝ }
+    requires { ⌜ (s .0 < places (textIn (now text) known) (patternIn (now pattern) (now fixed) known)) × (had ≤ length (now list)) ⌝ }
+    ensures { λ r. ⌜ Stepped Method.Hash (textIn (now (text .entry)) known) (patternIn (now (pattern .entry)) (now (fixed .entry)) known) (s .0) (now (list .entry)) had (r .at .0) (r .hits) (r .full) (now (list .exit)) ⌝ }
 {
-    let next = Place(next_mark(text, n, pattern, m, cells, s));
-    if compare::stands(text, pattern, m, s) {
+    let next = Place(next_mark(text, pattern, fixed, known, cells, s));
+    if compare::stands(text, pattern, fixed, known.m, s) {
         if had < list.len() {
             list[had] = s.0;
             return Found {
@@ -134,34 +296,34 @@ pub fn step(
 }
 
 // Many steps: each moves on by the cell of the window's last eight bits, and its place is written if the pattern stands
-// there. Only where these bits are the pattern's own is the rest compared.
+// there. Only where these bits agree with the pattern's last is the rest compared.
 pub fn advance(
     text: &[u8],
-    n: u32,
     pattern: &[u8],
-    m: u32,
-    h: Head,
+    fixed: &[u8],
+    known: Known,
     cells: &[u64],
     s: Place,
     budget: u32,
     list: &mut [u32],
     had: usize,
 ) -> Advance
-    requires { ⌜ Ready Method.Hash (textOf (now text) n) (patternOf (now pattern) m) (now cells) ⌝ }
-    requires { ⌜ HeadOf (patternOf (now pattern) m) (h .bits) (h .cut) ⌝ }
-    requires { ⌜ (s .0 ≤ places (textOf (now text) n) (patternOf (now pattern) m)) × (had ≤ length (now list)) ⌝ }
-    ensures { λ r. ⌜ Advanced Method.Hash (textOf (now (text .entry)) n) (patternOf (now (pattern .entry)) m) (s .0) budget (now (list .entry)) had (r .at .0) (r .steps) (r .hits) (r .full) (now (list .exit)) ⌝ }
+    requires { ⌜ Ready Method.Hash (textIn (now text) known) (patternIn (now pattern) (now fixed) known) (now cells) ⌝ }
+    requires { ⌜ HeadOf (patternIn (now pattern) (now fixed) known) (known .head) (known .mask) ⌝ }
+    requires { ⌜ (s .0 ≤ places (textIn (now text) known) (patternIn (now pattern) (now fixed) known)) × (had ≤ length (now list)) ⌝ }
+    ensures { λ r. ⌜ Advanced Method.Hash (textIn (now (text .entry)) known) (patternIn (now (pattern .entry)) (now (fixed .entry)) known) (s .0) budget (now (list .entry)) had (r .at .0) (r .steps) (r .hits) (r .full) (now (list .exit)) ⌝ }
 {
-    let end = n - m + 1;
-    let back = m - 8;
+    let end = known.n - known.m + 1;
+    let back = known.m - 8;
     let last = load::byte_inside(pattern, Place(back));
+    let care = load::byte_inside(fixed, Place(back));
     let mut at = s.0;
     let mut steps = 0u32;
     let mut hits = had;
     while at < end && steps < budget {
         let v = load::byte_inside(text, Place(at + back));
-        if v == last {
-            if compare::same(text, pattern, m, h, Place(at)) {
+        if (v ^ last) & care == 0 {
+            if compare::same(text, pattern, fixed, known, Place(at)) {
                 if list.len() <= hits {
                     return Advance {
                         at: Place(at),

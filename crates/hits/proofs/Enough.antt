@@ -93,7 +93,7 @@ module _ (t : Packed) (w : Pattern) (x : Method) (list other scratch free : List
           let f = accepted-fail (lent t w x list scratch) r e in
           sym e
           ∙ accepted-iff (lent t w x list scratch) .1 f
-          ∙ ap accepted (enough x t w (f .1 .1 .1 .1 .0) 4294967295 0 (length list) (length other) (omega arith) (omega arith))
+          ∙ ap accepted (enough x t w (f .1 .1 .1 .1 .1 .0) 4294967295 0 (length list) (length other) (omega arith) (omega arith))
           ∙ sym (accepted-iff (lent t w x other free) .1 (same-fail f))
 
 pub verdict-enough : (t : Packed) (w : Pattern) (x : Method) (list scratch : List ℕ) → places t w ≤ length list → scratchCells x (w .count) ≤ length scratch

@@ -5,9 +5,9 @@ use mathlib.Core.List.{List, [], _∷_, _++_, map}
 use Prim.Native.Nat.{ℕ}
 use Rattle.bits.specs.Packed.{bitAt, bitsAt}
 use Rattle.rules.specs.Ranges.{every, among, least, greatest}
-use Rattle.rules.specs.Pattern.{agrees}
+use Rattle.rules.specs.Pattern.{isFixed, agrees}
 use Rattle.rules.specs.Occurrence.{matches, occurs, occurrences}
-use Rattle.rules.specs.Plain.{fromBits, inRow, rowBit, maskBit, rowByte, rowMask, rowFits, plainFinds}
+use Rattle.rules.specs.Plain.{fromBits, inRow, fixedInRow, rowBit, maskBit, rowByte, rowMask, rowFits, plainFinds}
 use Rattle.rules.specs.Hash.{meets, hashOf, hashAgain, lastEight, hashFinds, hashNext}
 use Rattle.rules.specs.Skip.{shows, shownAt, skipFinds}
 use Rattle.rules.specs.Wide.{counts, stands, flagged, wideFinds, lastIndex, wideNext}
@@ -44,7 +44,7 @@ fivePrinted =
 
 -- "V1 then R1 gives, whole"
 paper : printed (two V1 R1) ≡ fivePrinted
-unfolding bitAt bitsAt every among least greatest agrees matches occurs occurrences fromBits inRow rowBit maskBit rowByte rowMask rowFits plainFinds meets hashOf hashAgain lastEight hashFinds hashNext shows shownAt skipFinds counts stands flagged wideFinds lastIndex wideNext prefixEnds tailLength tailFinds tailNext finds ahead next stopped cut after run rows judge machine verdict prepend readLine secondLine firstLine parse bitsFrom bytesFrom packed digitsOf decimalOf numbers acceptedLine refusedLine asked lineOf searchLine fiveLines printedOf printed
+unfolding bitAt bitsAt every among least greatest isFixed agrees matches occurs occurrences fromBits inRow fixedInRow rowBit maskBit rowByte rowMask rowFits plainFinds meets hashOf hashAgain lastEight hashFinds hashNext shows shownAt skipFinds counts stands flagged wideFinds lastIndex wideNext prefixEnds tailLength tailFinds tailNext finds ahead next stopped cut after run rows judge machine verdict prepend readLine secondLine firstLine parse bitsFrom bytesFrom packed digitsOf decimalOf numbers acceptedLine refusedLine asked lineOf searchLine fiveLines printedOf printed
 paper = refl
 
 -- a second line that byte 10 does not end

@@ -1,15 +1,16 @@
 -- What is printed: `bad input` just for input that is not good; else the five lines, where each way that takes the word
 -- lists all occurrences, and the others are refused with number 5.
 -- Assumes nothing.
-use Prim.Native.Nat.{ℕ, _+_, _-_, _^_, _≤_}
+use Prim.Native.Nat.{ℕ, _+_, _-_, _/_, _%_, _^_, _≤_, _<_}
 use mathlib.Core.Path.{_≡_, refl, sym, ap, _∙_}
 use mathlib.Core.Bool.{true, false}
 use mathlib.Core.Logic.{_↔_}
 use mathlib.Core.List.{List, _++_}
 use native.Mathlib.Omega.{arith}
-use lib.ListN.{length, getD, take, replicate, length-replicate}
+use lib.ListN.{length, getD, take, replicate, length-replicate, getD-replicate}
 use borrow.Author.Tests.{lt-ltb, le-ltb, ne-eqb}
-use Rattle.bits.specs.Packed.{Packed, bytesFor}
+use Rattle.bits.specs.Packed.{Packed, bytesFor, bitAt}
+use Rattle.bits.proofs.Weight.{weight-ones}
 use Rattle.rules.specs.declared.Method.{Method}
 use Rattle.rules.specs.declared.Method.the-variants.{Plain, Hash, Skip, Wide, Tail}
 use Rattle.rules.specs.Pattern.{Pattern}
@@ -17,6 +18,7 @@ use Rattle.rules.specs.Occurrence.{places, Occurs, occurrences}
 use Rattle.rules.specs.Step.{unfit}
 use Rattle.rules.specs.Scratch.{scratchCells}
 use Rattle.rules.specs.Machine.{Ending, done, spent, full, Run, Left}
+use Rattle.rules.proofs.Pattern.{fixed-iff}
 use Rattle.rules.proofs.Occurrence.{occurs-bits, occurrences-rising, occurrences-exactly, occurrences-length}
 use Rattle.rules.proofs.Machine.{left}
 use Rattle.search.specs.Verdict.{Verdict, refused, accepted, rows, judge, AllFail, machine, verdict}
@@ -32,7 +34,13 @@ use Rattle.hits.specs.Report.{inputMost}
 
 -- ---- good input
 
-module _ (w t : List ℕ) (pattern-bits : Bits w) (text-bits : Bits t) where
+-- each bit of the second run is a 1
+run-ones : (j : ℕ) → j < 2048 → bitAt (replicate 256 255) j ≡ 1
+unfolding bitAt
+run-ones j l =
+    rw (getD-replicate {A = ℕ} 256 (j / 8) 255 0 (omega arith)) (weight-ones 8 (7 - j % 8) (omega arith))
+
+module _ (w t : List ℕ) (pattern-bits : Bits w) (text-bits : Bits t) (most : length w ≤ 2048) where
   -- an occurrence in the packed bytes is one in the lines
   to-stands : (p : ℕ) → Occurs (textIn t) (patternIn w) p → Stands w t p
   to-stands p o =
@@ -41,7 +49,7 @@ module _ (w t : List ℕ) (pattern-bits : Bits w) (text-bits : Bits t) where
         inside = omega (arith, b .0);
         same = λ j l.
             sym (packed-bit t text-bits (p + j) (omega (arith, b .0)))
-            ∙ b .1 j l
+            ∙ b .1 j l (fixed-iff (patternIn w) j .1 (run-ones j (omega arith)))
             ∙ packed-bit w pattern-bits j l;
       }
 
@@ -50,7 +58,7 @@ module _ (w t : List ℕ) (pattern-bits : Bits w) (text-bits : Bits t) where
       let top = h .inside in
       occurs-bits (textIn t) (patternIn w) p .1 (
         omega arith,
-        λ j l.
+        λ j l f.
             packed-bit t text-bits (p + j) (omega arith)
             ∙ h .same j l
             ∙ sym (packed-bit w pattern-bits j l),
@@ -63,6 +71,9 @@ module _ (s w t : List ℕ) (g : Good s w t) (x : Method) where
 
   pattern-whole : bytesFor (length w) ≤ length (packed w)
   pattern-whole = rw (packed-length w) (omega arith)
+
+  fixed-whole : bytesFor (length w) ≤ length (replicate {A = ℕ} 256 255)
+  fixed-whole = rw (length-replicate {A = ℕ} 256 255) (omega (arith, g .pattern-most))
 
   text-whole : bytesFor (length t) ≤ length (packed t)
   text-whole = rw (packed-length t) (omega arith)
@@ -77,14 +88,14 @@ module _ (s w t : List ℕ) (g : Good s w t) (x : Method) where
   pub unfit-line : unfit x (length w) ≡ true → searchLine (textIn t) (patternIn w) x ≡ refusedLine x 5
   unfolding searchLine lineOf verdict rows judge asked
   unfit-line h =
-      simp (le-ltb _ _ text-short, le-ltb _ _ text-whole, ne-eqb _ _ some, le-ltb _ _ (g .pattern-most), le-ltb _ _ pattern-whole, h)
+      simp (le-ltb _ _ text-short, le-ltb _ _ text-whole, ne-eqb _ _ some, le-ltb _ _ (g .pattern-most), le-ltb _ _ pattern-whole, le-ltb _ _ fixed-whole, h)
 
   module _ (fit : unfit x (length w) ≡ false) where
     none-holds : AllFail (rows (asked (textIn t) (patternIn w) x))
     unfolding rows asked
     none-holds = (
       le-ltb _ _ text-short,
-      (le-ltb _ _ text-whole, (rw (ne-eqb _ _ some, le-ltb _ _ (g .pattern-most)), (le-ltb _ _ pattern-whole, (fit, (le-ltb (places (textIn t) (patternIn w)) 0 (omega arith), (le-ltb _ _ cells, tt)))))),
+      (le-ltb _ _ text-whole, (rw (ne-eqb _ _ some, le-ltb _ _ (g .pattern-most)), (le-ltb _ _ pattern-whole, (le-ltb _ _ fixed-whole, (fit, (le-ltb (places (textIn t) (patternIn w)) 0 (omega arith), (le-ltb _ _ cells, tt))))))),
     )
 
     what-is-left : Left (textIn t) (patternIn w) 0 (2 ^ 32 - 1) (places (textIn t) (patternIn w)) (machine (asked (textIn t) (patternIn w) x))
@@ -128,9 +139,9 @@ module _ (s w t : List ℕ) (g : Good s w t) (x : Method) where
           exactly = λ p.
               let iff = occurrences-exactly (textIn t) (patternIn w) 0 (places (textIn t) (patternIn w)) p in
               rw all (
-                λ m. to-stands w t (g .pattern-bits) (g .text-bits) p (iff .0 m .0),
+                λ m. to-stands w t (g .pattern-bits) (g .text-bits) (g .pattern-most) p (iff .0 m .0),
                 λ h.
-                    let o = from-stands w t (g .pattern-bits) (g .text-bits) p (g .pattern-some) h in
+                    let o = from-stands w t (g .pattern-bits) (g .text-bits) (g .pattern-most) p (g .pattern-some) h in
                     iff .1 (o, omega arith, o .inside),
               );
         }

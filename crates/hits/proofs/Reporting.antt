@@ -15,7 +15,7 @@ use Rattle.lines.specs.Input.{bitOf, parse}
 use Rattle.lines.specs.Packing.{packed}
 use Rattle.lines.specs.Inner.{Puts, inputIn}
 use Rattle.lines.proofs.Putting.{puts-then}
-use Rattle.hits.specs.Printed.{searchLine, fiveLines, printedOf, printed}
+use Rattle.hits.specs.Printed.{fixedPattern, searchLine, fiveLines, printedOf, printed}
 
 -- the five lines, one after another, in the order of the ways
 pub five-stored : (t : Packed) (w : Pattern) (x y z u v : Method) {a b c d e f : List ℕ} {i j k l m : ℕ}
@@ -28,7 +28,7 @@ five-stored t w x y z u v p q r s o plain hash skip wide tail =
 -- the bytes that are packed from the input's two lines, and the characters' numbers, give the lines of the bits
 pub packed-printed : (s : List ℕ) (m n : ℕ) {pattern text : List ℕ} → m + n + 2 ≡ length s → pattern ≡ packed (map bitOf (take m s))
     → text ≡ packed (map bitOf (take (m + 1 + n - (m + 1)) (drop (m + 1) s)))
-    → fiveLines (record { bytes = text; count = n }) (record { bytes = pattern; count = m }) ≡ printedOf (inputIn s (Lines m n))
+    → fiveLines (record { bytes = text; count = n }) (fixedPattern pattern m) ≡ printedOf (inputIn s (Lines m n))
 unfolding printedOf
 packed-printed s m n size e f =
     let first : length (map bitOf (take m s)) ≡ m = simp (length-map, length-take) (omega arith) in

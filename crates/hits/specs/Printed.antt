@@ -18,12 +18,16 @@ use Rattle.lines.specs.Line.{acceptedLine, refusedLine}
 abbrev pub badInput : List ℕ
 badInput = 98 ∷ 97 ∷ 100 ∷ 32 ∷ 105 ∷ 110 ∷ 112 ∷ 117 ∷ 116 ∷ 10 ∷ []
 
+-- so many bits of these bytes as a pattern, each of them fixed: the program's input has no wild bits
+abbrev pub fixedPattern : List ℕ → ℕ → Pattern
+fixedPattern bytes m = record { bytes = bytes; fixed = replicate 256 255; count = m }
+
 -- the bits of the input's second line as a text, and those of its first line as a pattern
 abbrev pub textIn : List ℕ → Packed
 textIn bits = record { bytes = packed bits; count = length bits }
 
 abbrev pub patternIn : List ℕ → Pattern
-patternIn bits = record { bytes = packed bits; count = length bits }
+patternIn bits = fixedPattern (packed bits) (length bits)
 
 -- "It searches in each way from 0 with budget 2^32 − 1 and cells for all": a cell for each place. The scratch is the least
 -- that the search takes. Of the cells a search asks only how many they are.

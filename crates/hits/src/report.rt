@@ -11,7 +11,7 @@ ghost use Prim.Native.Nat.{_+_, _-_, _≤_};
 ghost use lib.ListN.{length, take};
 ghost use Rattle.io.specs.Counts.{Counts};
 ghost use Rattle.lines.specs.Inner.{Puts, Sized, inputIn};
-ghost use Rattle.hits.specs.Printed.{searchLine, fiveLines, printedOf, printed};
+ghost use Rattle.hits.specs.Printed.{fixedPattern, searchLine, fiveLines, printedOf, printed};
 ghost use Rattle.hits.specs.Report.{numberIn, placesMost, patternMost, lineMost, printedMost};
 
 // "budget 2^32 − 1"
@@ -21,6 +21,9 @@ const BUDGET: u32 = 4294967295;
 const CELLS: usize = 4096;
 
 const SCRATCH: usize = 4222;
+
+// The second run of the longest pattern: every bit is fixed.
+const RUN: usize = 256;
 
 // The number of a refused call; an accepted one has none.
 fn number_in(outcome: Outcome) -> u32
@@ -44,12 +47,23 @@ fn search_line(
     at: usize,
 ) -> usize
     requires { ⌜ (1 + n - m ≤ placesMost) × (m ≤ patternMost) × (at + lineMost ≤ length (now out)) ⌝ }
-    ensures is { λ r. ⌜ Puts (now (out .entry)) at (searchLine (record { bytes = now (text .entry); count = n }) (record { bytes = now (pattern .entry); count = m }) method) r (now (out .exit)) ⌝ }
+    ensures is { λ r. ⌜ Puts (now (out .entry)) at (searchLine (record { bytes = now (text .entry); count = n }) (fixedPattern (now (pattern .entry)) m) method) r (now (out .exit)) ⌝ }
     ensures short { λ r. ⌜ r ≤ at + lineMost ⌝ }
 {
     let mut list = [0u32; CELLS];
     let mut scratch = [0u64; SCRATCH];
-    let outcome = Mark::new().search(text, n, pattern, m, method, BUDGET, &mut list, &mut scratch);
+    let fixed = [255u8; RUN];
+    let outcome = Mark::new().search(
+        text,
+        n,
+        pattern,
+        &fixed,
+        m,
+        method,
+        BUDGET,
+        &mut list,
+        &mut scratch,
+    );
     let Outcome::Accepted(answer) = outcome else {
         return line::refused(out, at, method, number_in(outcome));
     };
@@ -59,7 +73,7 @@ fn search_line(
 // Stores the lines of the five methods.
 fn five_lines(text: &[u8], n: u64, pattern: &[u8], m: u64, out: &mut [u8]) -> usize
     requires { ⌜ (1 + n - m ≤ placesMost) × (m ≤ patternMost) × (printedMost ≤ length (now out)) ⌝ }
-    ensures is { λ r. ⌜ Puts (now (out .entry)) 0 (fiveLines (record { bytes = now (text .entry); count = n }) (record { bytes = now (pattern .entry); count = m })) r (now (out .exit)) ⌝ }
+    ensures is { λ r. ⌜ Puts (now (out .entry)) 0 (fiveLines (record { bytes = now (text .entry); count = n }) (fixedPattern (now (pattern .entry)) m)) r (now (out .exit)) ⌝ }
     ensures short { λ r. ⌜ r ≤ printedMost ⌝ }
 {
     let a = search_line(text, n, pattern, m, Method::Plain, out, 0);

@@ -1,5 +1,6 @@
 -- Laws that the methods share.
 pub mod Chunks
+pub mod Words
 pub mod Progress
 pub mod Writing
 pub mod Advancing

@@ -3,36 +3,47 @@ use Prim.Native.Nat.{ℕ, _+_, _-_, _^_, _≤_, _<_, min}
 use mathlib.Core.Path.{_≡_}
 use mathlib.Core.Bool.{Bool, true, false, cond}
 use mathlib.Core.List.{List}
-use lib.Dec.{ltb}
+use lib.Bits.{bitAnd}
+use lib.Dec.{ltb, eqb}
 use lib.ListN.{length, getD, take}
 use lib.Seq.{sets}
-use Rattle.bits.specs.Packed.{Packed, bytesFor, bitsAt}
+use Rattle.bits.specs.Packed.{Packed, bytesFor, bitOf}
 use Rattle.rules.specs.declared.Method.{Method}
-use Rattle.rules.specs.Pattern.{Pattern}
+use Rattle.rules.specs.Ranges.{every}
+use Rattle.rules.specs.Pattern.{Pattern, agrees}
 use Rattle.rules.specs.Occurrence.{places}
 use Rattle.rules.specs.Step.{unfit, finds, next}
 use Rattle.rules.specs.Scratch.{scratchCells}
 use Rattle.rules.specs.Machine.{full, run, after}
+use Rattle.matcher.specs.declared.compare.Known.{Known}
 use Rattle.matcher.specs.Tables.{Tables}
 
 -- bytes and a bit count as the text
 abbrev pub textOf : List ℕ → ℕ → Packed
 textOf bytes n = record { bytes = bytes; count = n }
 
--- bytes and a bit count as the pattern
-abbrev pub patternOf : List ℕ → ℕ → Pattern
-patternOf bytes m = record { bytes = bytes; count = m }
+-- bytes, those of the second run and a bit count as the pattern
+abbrev pub patternOf : List ℕ → List ℕ → ℕ → Pattern
+patternOf bytes fixed m = record { bytes = bytes; fixed = fixed; count = m }
 
--- the first 57 bits of the pattern, or all of a shorter one, as a number, and by how many bits that is short of 64: what one
--- load of eight bytes shows, wherever in its byte a place lies
+-- the same with the bit counts that a search knows
+abbrev pub textIn : List ℕ → Known → Packed
+textIn bytes k = textOf bytes (k .n)
+
+abbrev pub patternIn : List ℕ → List ℕ → Known → Pattern
+patternIn bytes fixed k = patternOf bytes fixed (k .m)
+
+-- A word of 64 bits, under the mask, is the head just if its first 57 bits, or as many as the pattern has, agree with the
+-- pattern: what one load of eight bytes shows, wherever in its byte a place lies.
 abbrev pub HeadOf : Pattern → ℕ → ℕ → Type 0
-HeadOf w bits cut = (bits ≡ bitsAt (w .bytes) 0 (min (w .count) 57)) × (cut ≡ 64 - min (w .count) 57)
+HeadOf w head mask = (x : ℕ) → eqb (bitAnd x mask) head ≡ every (min (w .count) 57) (λ j. agrees w j (bitOf 64 x j))
 
 -- What a pattern is when it has passed the refusals, and the scratch.
 pub record GoodPattern (x : Method) (w : Pattern) : Type 0 where
   pub some-bits : 0 < w .count
   pub few-bits : w .count ≤ 2048
   pub bytes-there : bytesFor (w .count) ≤ length (w .bytes)
+  pub fixed-there : bytesFor (w .count) ≤ length (w .fixed)
   pub fit : unfit x (w .count) ≡ false
 
 -- What a step may rely on: text and pattern have passed the refusals, the pattern fits into the text, the tables are made.

@@ -1,14 +1,14 @@
 -- What each method's tables hold. They lie in the first cells of the scratch, as many as `scratchCells` has for the method.
-use Prim.Native.Nat.{ℕ, zero, suc, _+_, _-_, _*_, _/_, _%_, _<_}
+use Prim.Native.Nat.{ℕ, zero, suc, _+_, _-_, _*_, _/_, _%_, _^_, _<_}
 use mathlib.Core.Path.{_≡_}
-use mathlib.Core.Bool.{Bool, _&&_, cond}
+use mathlib.Core.Bool.{Bool, true, false, not, _&&_, cond}
 use mathlib.Core.List.{List}
 use lib.Dec.{leb, ltb, eqb}
 use lib.ListN.{length, getD, drop}
 use Rattle.bits.specs.Packed.{bitsAt, bitOf, weight}
 use Rattle.rules.specs.declared.Method.{Method}
 use Rattle.rules.specs.declared.Method.the-variants.{Plain, Hash, Skip, Wide, Tail}
-use Rattle.rules.specs.Ranges.{implies}
+use Rattle.rules.specs.Ranges.{implies, every}
 use Rattle.rules.specs.Pattern.{Pattern, agrees}
 use Rattle.rules.specs.Plain.{rowBit, maskBit}
 use Rattle.rules.specs.Hash.{hashAgain}
@@ -29,19 +29,41 @@ pub record PlainTables (w : Pattern) (cells : List ℕ) : Type 0 where
 pub record HashTables (w : Pattern) (cells : List ℕ) : Type 0 where
   pub move-is : (B : ℕ) → B < 256 → getD cells B 0 ≡ hashAgain w B
 
--- one more than the greatest index below k from which the pattern shows the byte B, or 0
-unfoldable pub lastShown : Pattern → ℕ → ℕ → ℕ
-lastShown w B zero = 0
-lastShown w B (suc k) = cond (eqb (bitsAt (w .bytes) k 8) B) (suc k) (lastShown w B k)
+-- one more than the greatest number below k at which f passes, or 0
+unfoldable pub lastBelow : (ℕ → Bool) → ℕ → ℕ
+lastBelow f zero = 0
+lastBelow f (suc k) = cond (f k) (suc k) (lastBelow f k)
+
+-- skip: the pattern from index k on shows the byte B
+unfoldable pub showsByte : Pattern → ℕ → ℕ → Bool
+showsByte w B k = every 8 (λ j. agrees w (k + j) (bitOf 8 B j))
+
+-- its eight bits from index k on are fixed
+unfoldable pub solid : Pattern → ℕ → Bool
+solid w k = eqb (bitsAt (w .fixed) k 8) 255
+
+-- they are, and show the byte B: index k stands in the chain of B
+unfoldable pub inChain : Pattern → ℕ → ℕ → Bool
+inChain w B k = solid w k && eqb (bitsAt (w .bytes) k 8) B
+
+-- one of them is wild: index k stands in the one chain of such indices
+unfoldable pub inWild : Pattern → ℕ → Bool
+inWild w k = not (solid w k)
 
 -- skip: a step from a mark 8 b + 1 has so many places, and the chains hold as many indices
 unfoldable pub chained : ℕ → ℕ
 chained m = (m + 1) / 8 * 8 - 8
 
--- skip: in cell B the head of the chain of the indices that show B, highest first; in cell 256 + j the index after j
+-- skip: in cell B the head of the chain of B, highest index first, and in cell 256 + j the link after index j; in cell 255 + m
+-- the head of the chain of the indices with a wild bit, and beside the link after such an index, from bits 16 and 24 on, the
+-- eight bits that the pattern has there and which of them are fixed
 pub record SkipTables (w : Pattern) (cells : List ℕ) : Type 0 where
-  pub head-is : (B : ℕ) → B < 256 → getD cells B 0 ≡ lastShown w B (chained (w .count))
-  pub link-is : (j : ℕ) → j < chained (w .count) → getD cells (256 + j) 0 ≡ lastShown w (bitsAt (w .bytes) j 8) j
+  pub head-is : (B : ℕ) → B < 256 → getD cells B 0 ≡ lastBelow (inChain w B) (chained (w .count))
+  pub link-is : (j : ℕ) → j < chained (w .count) → solid w j ≡ true
+      → getD cells (256 + j) 0 ≡ lastBelow (inChain w (bitsAt (w .bytes) j 8)) j
+  pub wild-head-is : getD cells (255 + w .count) 0 ≡ lastBelow (inWild w) (chained (w .count))
+  pub wild-link-is : (j : ℕ) → j < chained (w .count) → solid w j ≡ false
+      → getD cells (256 + j) 0 ≡ lastBelow (inWild w) j + 2 ^ 16 * bitsAt (w .bytes) j 8 + 2 ^ 24 * bitsAt (w .fixed) j 8
 
 -- the window bit q, being c, leaves flag i standing: q − i is no index of the pattern, or its bit there is c
 unfoldable pub passes : Pattern → ℕ → ℕ → ℕ → Bool

@@ -2,9 +2,9 @@
 use mathlib.Core.Path.{refl}
 use Rattle.bits.specs.Packed.{bitAt, bitsAt}
 use Rattle.rules.specs.Ranges.{every, among, least, greatest}
-use Rattle.rules.specs.Pattern.{agrees}
+use Rattle.rules.specs.Pattern.{isFixed, agrees}
 use Rattle.rules.specs.Occurrence.{matches, occurs, occurrences}
-use Rattle.rules.specs.Plain.{fromBits, inRow, rowBit, maskBit, rowByte, rowMask, rowFits, plainFinds}
+use Rattle.rules.specs.Plain.{fromBits, inRow, fixedInRow, rowBit, maskBit, rowByte, rowMask, rowFits, plainFinds}
 use Rattle.rules.specs.Hash.{meets, hashOf, hashAgain, lastEight, hashFinds, hashNext}
 use Rattle.rules.specs.Skip.{shows, shownAt, skipFinds}
 use Rattle.rules.specs.Wide.{counts, stands, flagged, wideFinds, lastIndex, wideNext}
@@ -20,7 +20,7 @@ use Rattle.marking.specs.Sitting.{sum, sheetsOf, allRise, allMarks, totalsOf, v
 use Rattle.papers.specs.Papers.{Papers}
 
 pub papers : Papers
-unfolding bitAt bitsAt every among least greatest agrees matches occurs occurrences fromBits inRow rowBit maskBit rowByte rowMask rowFits plainFinds meets hashOf hashAgain lastEight hashFinds hashNext shows shownAt skipFinds counts stands flagged wideFinds lastIndex wideNext prefixEnds tailLength tailFinds tailNext finds ahead next stopped cut after run marksFrom groups encodeNumber encodeFrom encode lastGroup readGroups readNumber readPosition readBody whole decode risesFrom rising on filter both only marks sum sheetsOf allRise allMarks totalsOf verdict
+unfolding bitAt bitsAt every among least greatest isFixed agrees matches occurs occurrences fromBits inRow fixedInRow rowBit maskBit rowByte rowMask rowFits plainFinds meets hashOf hashAgain lastEight hashFinds hashNext shows shownAt skipFinds counts stands flagged wideFinds lastIndex wideNext prefixEnds tailLength tailFinds tailNext finds ahead next stopped cut after run marksFrom groups encodeNumber encodeFrom encode lastGroup readGroups readNumber readPosition readBody whole decode risesFrom rising on filter both only marks sum sheetsOf allRise allMarks totalsOf verdict
 papers =
     record {
       r1-v1 = refl;
@@ -85,4 +85,28 @@ papers =
       cells-wide-2048 = refl;
       cells-tail-1 = refl;
       cells-tail-64 = refl;
+      wild-all = refl;
+      wild-plain = refl;
+      wild-hash-marks = refl;
+      wild-hash = refl;
+      wild-wide-marks = refl;
+      wild-wide = refl;
+      wild-tail-marks = refl;
+      wild-tail = refl;
+      wild-skip-marks = refl;
+      wild-skip = refl;
+      wild-ones = refl;
+      h-own = refl;
+      h-read = refl;
+      again-own = refl;
+      again-read = refl;
+      again-step = refl;
+      wide-wild-index = refl;
+      wide-wild-marks = refl;
+      skip-wild-1 = refl;
+      skip-wild-8 = refl;
+      skip-wild-4 = refl;
+      skip-wild-finds = refl;
+      skip-wild-run = refl;
+      all-wild = refl;
     }

@@ -1,15 +1,18 @@
 -- The starred rows of "Papers from the course", in document 01's order, and after them the rows of the changes (the
--- tail method, a sitting, the cut step, the scratch), as one claim about the definitions. The texts R1 and R2 and the patterns V1
+-- tail method, a sitting, the cut step, the scratch, wild bits), as one claim about the definitions. The texts R1 and R2 and the patterns V1
 -- and V2 are those of rules/specs/Papers.antt.
 use mathlib.Core.Path.{_≡_}
 use mathlib.Core.List.{[], _∷_}
+use mathlib.Core.Bool.{true, false}
 use mathlib.Core.Option.{some}
 use Rattle.rules.specs.declared.Method.the-variants.{Plain, Hash, Skip, Wide, Tail}
-use Rattle.rules.specs.Hash.{hashOf}
+use Rattle.rules.specs.Hash.{hashOf, hashAgain}
+use Rattle.rules.specs.Skip.{shows, skipFinds}
+use Rattle.rules.specs.Wide.{lastIndex}
 use Rattle.rules.specs.Tail.{tailLength}
 use Rattle.rules.specs.Scratch.{scratchCells}
 use Rattle.rules.specs.Machine.{done, spent, full, run}
-use Rattle.rules.specs.Papers.{R1, V1, R2, V2, empty, ones5, one, ones3, zeros200, tailText, tailPattern, allOccurrences, wholeRun, marks}
+use Rattle.rules.specs.Papers.{R1, V1, R2, V2, V1Wild, V1WildOnes, V2Wild, wild3, wildOne, skipPattern, skipText, empty, ones5, one, ones3, zeros200, tailText, tailPattern, allOccurrences, wholeRun, marks}
 use Rattle.positions.specs.Basics.{ok}
 use Rattle.positions.specs.Encode.{encode}
 use Rattle.positions.specs.Decode.{decode}
@@ -94,11 +97,43 @@ pub record Papers : Type 0 where
   pub cells-plain-9 : scratchCells Plain 9 ≡ 32
   pub cells-plain-10 : scratchCells Plain 10 ≡ 48
   pub cells-plain-2048 : scratchCells Plain 2048 ≡ 4112
-  pub cells-hash-8 : scratchCells Hash 8 ≡ 256
-  pub cells-hash-2048 : scratchCells Hash 2048 ≡ 256
+  pub cells-hash-8 : scratchCells Hash 8 ≡ 512
+  pub cells-hash-2048 : scratchCells Hash 2048 ≡ 512
   pub cells-skip-15 : scratchCells Skip 15 ≡ 271
   pub cells-skip-2048 : scratchCells Skip 2048 ≡ 2304
   pub cells-wide-1 : scratchCells Wide 1 ≡ 128
   pub cells-wide-2048 : scratchCells Wide 2048 ≡ 4222
   pub cells-tail-1 : scratchCells Tail 1 ≡ 2
   pub cells-tail-64 : scratchCells Tail 64 ≡ 2
+  -- Wild bits: V1 in R1 with a field of three bits wild occurs at 22 too. Skip takes no pattern of ten bits; V2 with four bits
+  -- wild in R2 has a row for it
+  pub wild-all : allOccurrences R1 V1Wild ≡ 11 ∷ 22 ∷ []
+  pub wild-plain : wholeRun Plain R1 V1Wild 1000 ≡ record { steps = 27; written = 11 ∷ 22 ∷ []; mark = 27; ending = done }
+  pub wild-hash-marks : marks Hash R1 V1Wild 9 ≡ 0 ∷ 1 ∷ 4 ∷ 7 ∷ 11 ∷ 17 ∷ 20 ∷ 22 ∷ 26 ∷ 27 ∷ []
+  pub wild-hash : wholeRun Hash R1 V1Wild 1000 ≡ record { steps = 9; written = 11 ∷ 22 ∷ []; mark = 27; ending = done }
+  pub wild-wide-marks : marks Wide R1 V1Wild 1 ≡ 0 ∷ 27 ∷ []
+  pub wild-wide : wholeRun Wide R1 V1Wild 1000 ≡ record { steps = 1; written = 11 ∷ 22 ∷ []; mark = 27; ending = done }
+  pub wild-tail-marks : marks Tail R1 V1Wild 8 ≡ 0 ∷ 4 ∷ 7 ∷ 11 ∷ 17 ∷ 20 ∷ 22 ∷ 26 ∷ 27 ∷ []
+  pub wild-tail : wholeRun Tail R1 V1Wild 1000 ≡ record { steps = 8; written = 11 ∷ 22 ∷ []; mark = 27; ending = done }
+  pub wild-skip-marks : marks Skip R2 V2Wild 2 ≡ 0 ∷ 9 ∷ 13 ∷ []
+  pub wild-skip : wholeRun Skip R2 V2Wild 1000 ≡ record { steps = 2; written = 0 ∷ 6 ∷ 12 ∷ []; mark = 13; ending = done }
+  -- what the first run has at wild bits never matters, nor what either has from bit m on
+  pub wild-ones : wholeRun Hash R1 V1WildOnes 1000 ≡ wholeRun Hash R1 V1Wild 1000
+  -- V1's own last eight bits are 00110100. 00100100 agrees with them too, since they differ at a wild bit: H is 0 for both, and
+  -- the move after it goes by the value just read, 3 and not 6. From mark 17 it leads to 20
+  pub h-own : hashOf V1Wild 0b00110100 ≡ 0
+  pub h-read : hashOf V1Wild 0b00100100 ≡ 0
+  pub again-own : hashAgain V1Wild 0b00110100 ≡ 6
+  pub again-read : hashAgain V1Wild 0b00100100 ≡ 3
+  pub again-step : run Hash R1 V1Wild 1 17 1000 ≡ record { steps = 1; written = []; mark = 20; ending = spent }
+  -- A wide move that a wild bit decides: ?1 has no 0, and the greatest index that agrees with one is the wild bit's
+  pub wide-wild-index : lastIndex wildOne 0 ≡ some 0
+  pub wide-wild-marks : marks Wide zeros200 wildOne 4 ≡ 0 ∷ 65 ∷ 130 ∷ 195 ∷ 199 ∷ []
+  -- A byte that two indices show through one wild bit: the places 1 and 8 of one step, and no place between them
+  pub skip-wild-1 : shows skipText skipPattern 1 1 ≡ true
+  pub skip-wild-8 : shows skipText skipPattern 1 8 ≡ true
+  pub skip-wild-4 : shows skipText skipPattern 1 4 ≡ false
+  pub skip-wild-finds : skipFinds skipText skipPattern 0 ≡ 1 ∷ 8 ∷ []
+  pub skip-wild-run : wholeRun Skip skipText skipPattern 1000 ≡ record { steps = 1; written = 1 ∷ 8 ∷ []; mark = 9; ending = done }
+  -- A pattern all of whose bits are wild occurs at every place
+  pub all-wild : allOccurrences ones5 wild3 ≡ 0 ∷ 1 ∷ 2 ∷ []

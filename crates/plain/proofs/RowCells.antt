@@ -5,25 +5,26 @@ use mathlib.Core.Path.{_≡_, refl, sym, ap, ap₂, _∙_}
 use mathlib.Core.Logic.{_↔_}
 use mathlib.Core.Bool.{Bool, true, false}
 use mathlib.Core.List.{List}
-use native.Mathlib.Decide.{decLe}
-use native.Mathlib.Nat.{lt-of-le-of-lt, zero-div}
+use native.Mathlib.Nat.{lt-of-le-of-lt}
 use native.Mathlib.Omega.{arith}
 use lib.Bits.{bitAnd, and-le-l}
 use lib.Dec.{eqb}
-use lib.ListN.{length, getD, List·getD-eq-default}
+use lib.ListN.{length, getD}
 use borrow.Author.Tests.{eqb-true, eq-eqb}
 use Rattle.bits.specs.Packed.{Packed, weight, bitAt, bitsAt}
 use Rattle.bits.proofs.Weight.{weight-and, same-weights}
 use Rattle.bits.proofs.Run.{bit-lt, bits-lt, bit-of-bits}
 use Rattle.rules.specs.Pattern.{Pattern, agrees}
 use Rattle.rules.specs.Occurrence.{matches}
-use Rattle.rules.specs.Plain.{inRow, rowBit, maskBit}
+use Rattle.rules.specs.Plain.{inRow, fixedInRow, rowBit, maskBit}
+use Rattle.rules.specs.declared.Method.the-variants.{Plain}
+use Rattle.rules.specs.Scratch.{scratchCells}
 use Rattle.matcher.specs.Tables.{rowChunks, PlainTables}
 use Rattle.plain.specs.RowCells.{cellFits}
 use Rattle.rules.proofs.Ranges.{not-true-false, same-test}
 use Rattle.rules.proofs.Pattern.{agrees-iff}
 use Rattle.rules.proofs.Occurrence.{matches-at, to-matches}
-use Rattle.rules.proofs.Plain.{in-row, to-in-row, mask-bit-is, row-bit-is}
+use Rattle.rules.proofs.Plain.{in-row, to-in-row, fixed-in-row, to-fixed-in-row, mask-bit-is, row-bit-is}
 
 -- a test that answers true, or false, just if something holds
 pub granted : {A : Type 0} → A → (true ≡ true) ↔ A
@@ -78,23 +79,11 @@ module _ (text cells : List ℕ) where
       let row : (8 * b + r) % 8 ≡ r = omega arith in
       block-cell b (8 * b + r) x (omega arith) e ∙ ap (λ (i : ℕ). eqb (bitAnd x (getD cells (8 + i) 0)) (getD cells i 0)) row ∙ f
 
+-- the scratch has room for every cell of the rows
+pub room-long : (m : ℕ) (cells : List ℕ) → scratchCells Plain m ≤ length cells → 16 * rowChunks m ≤ length cells
+room-long m cells room = omega arith
+
 module _ (t : Packed) (w : Pattern) (cells : List ℕ) (tables : PlainTables w cells) (s : ℕ) where
-  -- tables that are made take their cells: row 7 has its last bit in the last of them
-  pub tables-long : 0 < w .count → 16 * rowChunks (w .count) ≤ length cells
-  tables-long some = elim (decLe (length cells) (16 * k + 8 + 7)) [ yes short ↦ absurd (none short) | no h ↦ omega arith ]
-    where
-      k : ℕ
-      k = (w .count + 6) / 64
-
-      j : ℕ
-      j = (w .count + 6) % 64
-
-      none : length cells ≤ 16 * k + 8 + 7 → ⊥
-      none short =
-          let inside : inRow w 7 (8 * k + j / 8) (j % 8) ≡ true = to-in-row w 7 (8 * k + j / 8) (j % 8) (omega arith) (omega arith) in
-          let zeros : weight (getD cells (16 * k + 8 + 7) 0) (63 - j) ≡ 0 = rw (List·getD-eq-default cells 0 short, zero-div) in
-          omega (arith, zeros, tables .mask-is 7 k j (omega arith) (omega arith) (omega arith), mask-bit-is w 7 (8 * k + j / 8) (j % 8) true inside)
-
   -- the eight bytes under cell k, and bit j of them under the mask
   under : ℕ → ℕ
   under k = bitsAt (t .bytes) (8 * (s / 8) + 64 * k) 64
@@ -122,8 +111,9 @@ module _ (t : Packed) (w : Pattern) (cells : List ℕ) (tables : PlainTables w c
       let index : 8 * (8 * k + j / 8) + j % 8 - s % 8 ≡ q = omega arith in
       let text : bitAt (t .bytes) (8 * (s / 8) + 64 * k + j) ≡ bitAt (t .bytes) (s + q) = ap (bitAt (t .bytes)) there in
       let pattern : bitAt (w .bytes) (8 * (8 * k + j / 8) + j % 8 - s % 8) ≡ bitAt (w .bytes) q = ap (bitAt (w .bytes)) index in
-      agrees-iff w q (bitAt (t .bytes) (s + q)) .1
-      (omega (arith, mask-bit-is w (s % 8) (8 * k + j / 8) (j % 8) true inside, row-bit-is w (s % 8) (8 * k + j / 8) (j % 8) true inside, bit-lt (t .bytes) (s + q)))
+      agrees-iff w q (bitAt (t .bytes) (s + q)) .1 (λ f.
+      let counted = to-fixed-in-row w (s % 8) (8 * k + j / 8) (j % 8) inside (rw index f) in
+      omega (arith, mask-bit-is w (s % 8) (8 * k + j / 8) (j % 8) true counted, row-bit-is w (s % 8) (8 * k + j / 8) (j % 8) true counted, bit-lt (t .bytes) (s + q)))
 
   module _ (small : (x : ℕ) → getD cells x 0 < 2 ^ 64) where
     -- where the pattern stands, each cell agrees
@@ -136,14 +126,15 @@ module _ (t : Packed) (w : Pattern) (cells : List ℕ) (tables : PlainTables w c
         (small (16 * k + s % 8))
         (λ y l.
         let back : 63 - (63 - y) ≡ y = omega arith in
-        rw back at (each (63 - y) (omega arith) (inRow w (s % 8) (8 * k + (63 - y) / 8) ((63 - y) % 8)) refl)))
+        rw back at (each (63 - y) (omega arith) (fixedInRow w (s % 8) (8 * k + (63 - y) / 8) ((63 - y) % 8)) refl)))
       where
-        each : (j : ℕ) → j < 64 → (b : Bool) → inRow w (s % 8) (8 * k + j / 8) (j % 8) ≡ b
+        each : (j : ℕ) → j < 64 → (b : Bool) → fixedInRow w (s % 8) (8 * k + j / 8) (j % 8) ≡ b
             → weight (masked k) (63 - j) ≡ weight (getD cells (16 * k + s % 8) 0) (63 - j)
         each j l true r =
-            let place = in-row w (s % 8) (8 * k + j / 8) (j % 8) r in
+            let counted = fixed-in-row w (s % 8) (8 * k + j / 8) (j % 8) r in
+            let place = in-row w (s % 8) (8 * k + j / 8) (j % 8) (counted .0) in
             let q : ℕ = 8 * (8 * k + j / 8) + j % 8 - s % 8 in
-            let same = agrees-iff w q (bitAt (t .bytes) (s + q)) .0 (matches-at t w s e q (place .1)) in
+            let same = agrees-iff w q (bitAt (t .bytes) (s + q)) .0 (matches-at t w s e q (place .1)) (counted .1) in
             let there : 8 * (s / 8) + 64 * k + j ≡ s + q = omega arith in
             let text : bitAt (t .bytes) (8 * (s / 8) + 64 * k + j) ≡ bitAt (t .bytes) (s + q) = ap (bitAt (t .bytes)) there in
             masked-bit k j h l

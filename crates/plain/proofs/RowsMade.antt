@@ -15,12 +15,13 @@ use Rattle.bits.specs.Packed.{bitOf, bitAt, bitsAt}
 use Rattle.bits.proofs.Weight.{weight-zero, weight-and}
 use Rattle.bits.proofs.Run.{bit-lt, bit-of-bits}
 use Rattle.rules.specs.declared.Method.the-variants.{Plain}
-use Rattle.rules.specs.Pattern.{Pattern}
-use Rattle.rules.specs.Plain.{inRow, rowBit, maskBit}
+use Rattle.rules.specs.Pattern.{Pattern, isFixed}
+use Rattle.rules.specs.Plain.{inRow, fixedInRow, rowBit, maskBit}
 use Rattle.rules.specs.Scratch.{scratchCells}
 use Rattle.matcher.specs.Tables.{rowChunks, Prepared}
 use Rattle.plain.specs.RowCells.{shiftedBit, Filled}
 use Rattle.rules.proofs.Ranges.{same-test, eq-or-below}
+use Rattle.rules.proofs.Pattern.{fixed-bit}
 use Rattle.rules.proofs.Plain.{mask-bit-is, row-bit-is}
 
 -- no row of the cells k
@@ -88,13 +89,17 @@ module _ (w : Pattern) (i h j i' h' j' : ℕ) (same : 8 * h + j + i' ≡ 8 * h' 
       (λ e. let l = leb-true i' (8 * h' + j') e in le-leb i (8 * h + j) (omega arith)))
       (ap (λ (n : ℕ). ltb n (w .count)) index)
 
+  fixed-moves : fixedInRow w i h j ≡ fixedInRow w i' h' j'
+  unfolding fixedInRow
+  fixed-moves = ap₂ (λ (b : Bool) (n : ℕ). b && isFixed w n) in-row-moves index
+
   pub row-moves : rowBit w i h j ≡ rowBit w i' h' j'
   unfolding rowBit
-  row-moves = ap₂ (λ (b : Bool) (n : ℕ). cond b (bitAt (w .bytes) n) 0) in-row-moves index
+  row-moves = ap₂ (λ (b : Bool) (n : ℕ). cond b (bitAt (w .bytes) n) 0) fixed-moves index
 
   pub mask-moves : maskBit w i h j ≡ maskBit w i' h' j'
   unfolding maskBit
-  mask-moves = ap (λ (b : Bool). cond b 1 0) in-row-moves
+  mask-moves = ap (λ (b : Bool). cond {A = ℕ} b 1 0) fixed-moves
 
 -- x holds the 64 bits from bit 64 k on of the row that is shifted by i
 abbrev pub Holds : (ℕ → ℕ → ℕ → ℕ) → ℕ → ℕ → ℕ → Type 0
@@ -142,8 +147,8 @@ module _ (w : Pattern) where
   masks-move i h j i' h' j' e = mask-moves w i h j i' h' j' e
 
   -- no bit of a row stands before its shift
-  out : (j : ℕ) → j < 64 → inRow w 64 (8 * 0 + j / 8) (j % 8) ≡ false
-  unfolding inRow
+  out : (j : ℕ) → j < 64 → fixedInRow w 64 (8 * 0 + j / 8) (j % 8) ≡ false
+  unfolding fixedInRow inRow
   out j h = rw (lt-leb 64 (8 * (8 * 0 + j / 8) + j % 8) (omega arith))
 
   pub made-none : (before : List ℕ) → Made w 0 0 0 before before
@@ -157,27 +162,38 @@ module _ (w : Pattern) where
         rest = λ y h. refl;
       }
 
-  -- the unshifted bits
-  pub mask-holds : (k mask : ℕ) → ((j : ℕ) → j < 64 → bitOf 64 mask j ≡ cond (ltb (64 * k + j) (w .count)) 1 0) → Holds (maskBit w) 0 k mask
-  unfolding inRow
-  mask-holds k mask f j h = f j h ∙ sym (mask-bit-is w 0 (8 * k + j / 8) (j % 8) (ltb (64 * k + j) (w .count)) inside)
+  -- the unshifted bits: a load of the second run where the ones are the pattern's bits, and one of the pattern under it
+  pub mask-holds : (k ones x : ℕ) → ((j : ℕ) → j < 64 → bitOf 64 ones j ≡ cond (ltb (64 * k + j) (w .count)) 1 0)
+      → x ≡ bitsAt (w .fixed) (64 * k) 64 → Holds (maskBit w) 0 k (bitAnd x ones)
+  unfolding fixedInRow inRow
+  mask-holds k ones x f e j h =
+      weight-and x ones (63 - j)
+      ∙ ap₂ min (ap (λ (y : ℕ). bitOf 64 y j) e ∙ bit-of-bits (w .fixed) (64 * k) {j = j} {k = 64} h ∙ fixed-bit w (64 * k + j)) (f j h)
+      ∙ both (isFixed w (64 * k + j)) (ltb (64 * k + j) (w .count))
+      ∙ sym (mask-bit-is w 0 (8 * k + j / 8) (j % 8) (ltb (64 * k + j) (w .count) && isFixed w (64 * k + j)) inside)
     where
       index : 8 * (8 * k + j / 8) + j % 8 - 0 ≡ 64 * k + j
       index = omega arith
 
-      inside : inRow w 0 (8 * k + j / 8) (j % 8) ≡ ltb (64 * k + j) (w .count)
+      inside : fixedInRow w 0 (8 * k + j / 8) (j % 8) ≡ (ltb (64 * k + j) (w .count) && isFixed w (64 * k + j))
       inside = rw (le-leb 0 (8 * (8 * k + j / 8) + j % 8) (omega arith), index)
+
+      both : (a b : Bool) → min (cond {A = ℕ} a 1 0) (cond {A = ℕ} b 1 0) ≡ cond {A = ℕ} (b && a) 1 0
+      both true true = refl
+      both true false = refl
+      both false true = refl
+      both false false = refl
 
   pub row-holds : (k mask x : ℕ) → Holds (maskBit w) 0 k mask → x ≡ bitsAt (w .bytes) (64 * k) 64 → Holds (rowBit w) 0 k (bitAnd x mask)
   row-holds k mask x f e j h =
       weight-and x mask (63 - j)
       ∙ ap₂ min (ap (λ (y : ℕ). bitOf 64 y j) e ∙ bit-of-bits (w .bytes) (64 * k) {j = j} {k = 64} h) (f j h)
-      ∙ go (inRow w 0 (8 * k + j / 8) (j % 8)) refl
+      ∙ go (fixedInRow w 0 (8 * k + j / 8) (j % 8)) refl
     where
       there : bitAt (w .bytes) (64 * k + j) ≡ bitAt (w .bytes) (8 * (8 * k + j / 8) + j % 8 - 0)
       there = ap (bitAt (w .bytes)) (omega arith)
 
-      go : (b : Bool) → inRow w 0 (8 * k + j / 8) (j % 8) ≡ b
+      go : (b : Bool) → fixedInRow w 0 (8 * k + j / 8) (j % 8) ≡ b
           → min (bitAt (w .bytes) (64 * k + j)) (maskBit w 0 (8 * k + j / 8) (j % 8)) ≡ rowBit w 0 (8 * k + j / 8) (j % 8)
       go true e =
           omega (arith, there, bit-lt (w .bytes) (64 * k + j), mask-bit-is w 0 (8 * k + j / 8) (j % 8) true e, row-bit-is w 0 (8 * k + j / 8) (j % 8) true e)

@@ -5,7 +5,7 @@ use bits::Place;
 use bits::load;
 use matcher::Advance;
 use matcher::Found;
-use matcher::compare::Head;
+use matcher::compare::Known;
 use rules::Method;
 ghost use mathlib.Core.Path.{_≡_};
 ghost use mathlib.Core.Bool.{true, false, cond};
@@ -19,9 +19,9 @@ ghost use Rattle.rules.specs.Occurrence.{places};
 ghost use Rattle.rules.specs.Scratch.{scratchCells};
 ghost use Rattle.matcher.specs.Tables.{rowChunks, Prepared};
 ghost use Rattle.plain.specs.RowCells.{cellFits, shiftedBit, Filled};
-ghost use Rattle.matcher.specs.Progress.{textOf, patternOf, HeadOf, GoodPattern, Ready, Stepped, Advanced};
+ghost use Rattle.matcher.specs.Progress.{patternOf, textIn, patternIn, HeadOf, GoodPattern, Ready, Stepped, Advanced};
 
-// Ones where the 64 bits from bit 64 k on are the pattern's, zeros past its end.
+// Ones where the 64 bits from bit 64 k on are the pattern's, zeros past its end. The masks are these at its fixed bits.
 fn ones(m: u32, k: u32) -> u64
     requires { ⌜ (m ≤ 2048) × (k ≤ 33) ⌝ }
     ensures { λ r. ⌜ ((j : ℕ) → j < 64 → bitOf 64 r j ≡ cond (ltb (64 * k + j) m) 1 0) ⌝ }
@@ -58,17 +58,17 @@ fn fill(cells: &mut [u64], k: usize, prev: u64, x: u64, prev_mask: u64, mask: u6
 }
 
 // Makes the rows and their masks.
-pub fn prepare(pattern: &[u8], m: u32, cells: &mut [u64])
-    requires { ⌜ GoodPattern Method.Plain (patternOf (now pattern) m) ⌝ }
+pub fn prepare(pattern: &[u8], fixed: &[u8], m: u32, cells: &mut [u64])
+    requires { ⌜ GoodPattern Method.Plain (patternOf (now pattern) (now fixed) m) ⌝ }
     requires { ⌜ scratchCells Method.Plain m ≤ length (now cells) ⌝ }
-    ensures { λ _. ⌜ Prepared Method.Plain (patternOf (now (pattern .entry)) m) (now (cells .entry)) (now (cells .exit)) ⌝ }
+    ensures { λ _. ⌜ Prepared Method.Plain (patternOf (now (pattern .entry)) (now (fixed .entry)) m) (now (cells .entry)) (now (cells .exit)) ⌝ }
 {
     let chunks = (m + 70) / 64;
     let mut prev = 0u64;
     let mut prev_mask = 0u64;
     let mut k = 0u32;
     while k < chunks {
-        let mask = ones(m, k);
+        let mask = load::word_at(fixed, Place(64 * k)) & ones(m, k);
         let x = load::word_at(pattern, Place(64 * k)) & mask;
         fill(cells, k as usize, prev, x, prev_mask, mask);
         prev = x;
@@ -158,22 +158,21 @@ fn reach(s: Place, end: Place, budget: u32) -> Place
 // One step: the place s is written if the pattern stands there.
 pub fn step(
     text: &[u8],
-    n: u32,
     pattern: &[u8],
-    m: u32,
-    h: Head,
+    fixed: &[u8],
+    known: Known,
     cells: &[u64],
     s: Place,
     list: &mut [u32],
     had: usize,
 ) -> Found
-    requires { ⌜ Ready Method.Plain (textOf (now text) n) (patternOf (now pattern) m) (now cells) ⌝ }
-    requires { ⌜ HeadOf (patternOf (now pattern) m) (h .bits) (h .cut) ⌝ }
-    requires { ⌜ (s .0 < places (textOf (now text) n) (patternOf (now pattern) m)) × (had ≤ length (now list)) ⌝ }
-    ensures { λ r. ⌜ Stepped Method.Plain (textOf (now (text .entry)) n) (patternOf (now (pattern .entry)) m) (s .0) (now (list .entry)) had (r .at .0) (r .hits) (r .full) (now (list .exit)) ⌝ }
+    requires { ⌜ Ready Method.Plain (textIn (now text) known) (patternIn (now pattern) (now fixed) known) (now cells) ⌝ }
+    requires { ⌜ HeadOf (patternIn (now pattern) (now fixed) known) (known .head) (known .mask) ⌝ }
+    requires { ⌜ (s .0 < places (textIn (now text) known) (patternIn (now pattern) (now fixed) known)) × (had ≤ length (now list)) ⌝ }
+    ensures { λ r. ⌜ Stepped Method.Plain (textIn (now (text .entry)) known) (patternIn (now (pattern .entry)) (now (fixed .entry)) known) (s .0) (now (list .entry)) had (r .at .0) (r .hits) (r .full) (now (list .exit)) ⌝ }
 {
     let at = s.0;
-    if row_fits(text, m, cells, s, 0) {
+    if row_fits(text, known.m, cells, s, 0) {
         if list.len() <= had {
             return Found {
                 at: s,
@@ -199,22 +198,21 @@ pub fn step(
 // row agrees too. If it finds no cell, its step is not one of them.
 pub fn advance(
     text: &[u8],
-    n: u32,
     pattern: &[u8],
-    m: u32,
-    h: Head,
+    fixed: &[u8],
+    known: Known,
     cells: &[u64],
     s: Place,
     budget: u32,
     list: &mut [u32],
     had: usize,
 ) -> Advance
-    requires { ⌜ Ready Method.Plain (textOf (now text) n) (patternOf (now pattern) m) (now cells) ⌝ }
-    requires { ⌜ HeadOf (patternOf (now pattern) m) (h .bits) (h .cut) ⌝ }
-    requires { ⌜ (s .0 ≤ places (textOf (now text) n) (patternOf (now pattern) m)) × (had ≤ length (now list)) ⌝ }
-    ensures { λ r. ⌜ Advanced Method.Plain (textOf (now (text .entry)) n) (patternOf (now (pattern .entry)) m) (s .0) budget (now (list .entry)) had (r .at .0) (r .steps) (r .hits) (r .full) (now (list .exit)) ⌝ }
+    requires { ⌜ Ready Method.Plain (textIn (now text) known) (patternIn (now pattern) (now fixed) known) (now cells) ⌝ }
+    requires { ⌜ HeadOf (patternIn (now pattern) (now fixed) known) (known .head) (known .mask) ⌝ }
+    requires { ⌜ (s .0 ≤ places (textIn (now text) known) (patternIn (now pattern) (now fixed) known)) × (had ≤ length (now list)) ⌝ }
+    ensures { λ r. ⌜ Advanced Method.Plain (textIn (now (text .entry)) known) (patternIn (now (pattern .entry)) (now (fixed .entry)) known) (s .0) budget (now (list .entry)) had (r .at .0) (r .steps) (r .hits) (r .full) (now (list .exit)) ⌝ }
 {
-    let limit = reach(s, Place(n - m + 1), budget);
+    let limit = reach(s, Place(known.n - known.m + 1), budget);
     let end = limit.0;
     let mut at = s.0;
     let mut hits = had;
@@ -230,7 +228,7 @@ pub fn advance(
             };
         }
         at = p + 1;
-        if row_fits(text, m, cells, c, 1) {
+        if row_fits(text, known.m, cells, c, 1) {
             if list.len() <= hits {
                 return Advance {
                     at: c,

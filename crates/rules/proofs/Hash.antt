@@ -16,12 +16,12 @@ use Rattle.bits.proofs.Weight.{weight-mod, same-weights}
 use Rattle.bits.proofs.Run.{bits-lt, bit-of-bits, weight-of-bits}
 use Rattle.rules.specs.declared.Method.the-variants.{Hash}
 use Rattle.rules.specs.Ranges.{keep}
-use Rattle.rules.specs.Pattern.{Pattern, agrees}
+use Rattle.rules.specs.Pattern.{Pattern, isFixed, agrees}
 use Rattle.rules.specs.Occurrence.{places, Occurs, matches, occurs}
 use Rattle.rules.specs.Hash.{meets, hashOf, hashAgain, lastEight, hashFinds, hashNext}
 use Rattle.rules.specs.Step.{finds, ahead, Sound}
 use Rattle.rules.proofs.Ranges.{and-right, and-both, same-test, implies-to, to-implies, every-at, to-every, Least, least-is}
-use Rattle.rules.proofs.Pattern.{agrees-iff}
+use Rattle.rules.proofs.Pattern.{fixed-iff, agrees-by}
 use Rattle.rules.proofs.Occurrence.{occurs-iff, not-occurs, occurs-inside}
 use Rattle.rules.proofs.Step.{Moved, one-place}
 
@@ -36,15 +36,13 @@ pub to-meets : (w : Pattern) (B d : ℕ)
 unfolding meets
 to-meets w B d h = to-every _ _ (λ j l. to-implies (leb (8 + d) (w .count + j)) _ (λ c. h j l (leb-true _ _ c)))
 
--- The condition by loads: the last k bits of B are the pattern's k bits from p on. They are all eight bits of B, or fewer
--- from the pattern's first bit on.
-pub meets-load : (w : Pattern) (B d k p : ℕ) → p + k + d ≡ w .count → k ≤ 8 → (k < 8 → p ≡ 0)
-    → (meets w B d ≡ true) ↔ (B % 2 ^ k ≡ bitsAt (w .bytes) p k)
-meets-load w B d k p size few first = (to, from)
+-- The condition by loads: the last k bits of B are the pattern's k bits from p on, where the second run has a 1. They are all
+-- eight bits of B, or fewer from the pattern's first bit on.
+pub meets-where : (w : Pattern) (B d k p : ℕ) → p + k + d ≡ w .count → k ≤ 8 → (k < 8 → p ≡ 0)
+    → (meets w B d ≡ true)
+    ↔ ((i : ℕ) → i < k → weight (bitsAt (w .fixed) p k) i ≡ 1 → weight B i ≡ weight (bitsAt (w .bytes) p k) i)
+meets-where w B d k p size few first = (to, from)
   where
-    bits : ℕ
-    bits = bitsAt (w .bytes) p k
-
     -- a bit j that the condition speaks of is one of the last k
     last : (j : ℕ) → j < 8 → 8 + d ≤ w .count + j → 8 ≤ k + j
     last j l c = go (decLe 8 k)
@@ -56,29 +54,37 @@ meets-load w B d k p size few first = (to, from)
     index : (j : ℕ) → 8 ≤ k + j → w .count + j - (8 + d) ≡ p + (k + j - 8)
     index j h = omega arith
 
-    -- bit i of both sides
-    left-bit : (i : ℕ) → i < k → weight (B % 2 ^ k) i ≡ weight B i
-    left-bit i l = weight-mod B l
-
-    to : meets w B d ≡ true → B % 2 ^ k ≡ bits
-    to h = same-weights k _ _ (mod-lt B (pow-pos k)) (bits-lt (w .bytes) p k) (λ i l.
+    to : meets w B d ≡ true → (i : ℕ) → i < k → weight (bitsAt (w .fixed) p k) i ≡ 1 → weight B i ≡ weight (bitsAt (w .bytes) p k) i
+    to h i l f =
         let there : 8 - 1 - (7 - i) ≡ i = omega arith in
         let right : k + (7 - i) - 8 ≡ k - 1 - i = omega arith in
-        let agreed = agrees-iff w _ _ .0 (meets-at w B d h (7 - i) (omega arith) (omega arith)) in
-        left-bit i l
-        ∙ rw (there, index (7 - i) (omega arith), right) at agreed
-        ∙ sym (weight-of-bits (w .bytes) p l))
+        let agreed = agrees-by w _ _ .0 (rw (there, index (7 - i) (omega arith), right) at (meets-at w B d h (7 - i) (omega arith) (omega arith))) in
+        agreed (sym (weight-of-bits (w .fixed) p l) ∙ f) ∙ sym (weight-of-bits (w .bytes) p l)
 
-    from : B % 2 ^ k ≡ bits → meets w B d ≡ true
-    from e = to-meets w B d (λ j l c.
+    from : ((i : ℕ) → i < k → weight (bitsAt (w .fixed) p k) i ≡ 1 → weight B i ≡ weight (bitsAt (w .bytes) p k) i) → meets w B d ≡ true
+    from h = to-meets w B d (λ j l c.
         let inside = last j l c in
         let i : ℕ = 7 - j in
         let below : i < k = omega arith in
         let there : 8 - 1 - j ≡ i = omega arith in
         let right : k - 1 - i ≡ k + j - 8 = omega arith in
-        agrees-iff w _ _ .1
-        (rw (there, index j inside, ← right)
-        (sym (left-bit i below) ∙ ap (λ (x : ℕ). weight x i) e ∙ weight-of-bits (w .bytes) p below)))
+        rw (there, index j inside, ← right)
+        (agrees-by w _ _ .1 (λ f. h i below (weight-of-bits (w .fixed) p below ∙ f) ∙ weight-of-bits (w .bytes) p below)))
+
+-- where these bits are fixed: the last k bits of B are the pattern's
+pub meets-load : (w : Pattern) (B d k p : ℕ) → p + k + d ≡ w .count → k ≤ 8 → (k < 8 → p ≡ 0)
+    → ((j : ℕ) → j < k → isFixed w (p + j) ≡ true) → (meets w B d ≡ true) ↔ (B % 2 ^ k ≡ bitsAt (w .bytes) p k)
+meets-load w B d k p size few first fixed = (
+  λ h. same-weights k _ _ (mod-lt B (pow-pos k)) (bits-lt (w .bytes) p k) (λ i l. weight-mod B l ∙ rule .0 h i l (one i l)),
+  λ e. rule .1 (λ i l f. sym (weight-mod B l) ∙ ap (λ (x : ℕ). weight x i) e),
+)
+  where
+    rule : (meets w B d ≡ true)
+        ↔ ((i : ℕ) → i < k → weight (bitsAt (w .fixed) p k) i ≡ 1 → weight B i ≡ weight (bitsAt (w .bytes) p k) i)
+    rule = meets-where w B d k p size few first
+
+    one : (i : ℕ) → i < k → weight (bitsAt (w .fixed) p k) i ≡ 1
+    one i l = weight-of-bits (w .fixed) p l ∙ fixed-iff w _ .0 (fixed (k - 1 - i) (omega arith))
 
 -- d = m always meets it: it then speaks of no bit
 pub meets-all : (w : Pattern) (B : ℕ) → meets w B (w .count) ≡ true

@@ -1,5 +1,5 @@
 -- The laws of the definitions and the theorems about them. The files have the names of those in specs/, and `Padding` is
--- about the bits of a text from n on and of a pattern from m on.
+-- about the bits of a text from n on and of a pattern from m on, and about patterns with which the same bits agree.
 pub mod Ranges
 pub mod Pattern
 pub mod Occurrence
@@ -13,3 +13,5 @@ pub mod Tail
 pub mod Methods
 pub mod Machine
 pub mod Padding
+pub mod Wild
+pub mod Before

@@ -12,7 +12,7 @@ use lib.ListN.{length}
 use borrow.Author.Tests.{ltb-true, lt-ltb}
 use Rattle.bits.specs.Packed.{Packed, bitAt}
 use Rattle.rules.specs.Ranges.{keep, among, Rising}
-use Rattle.rules.specs.Pattern.{Pattern, agrees}
+use Rattle.rules.specs.Pattern.{Pattern, isFixed, agrees}
 use Rattle.rules.specs.Occurrence.{places, Occurs, matches, occurs, occurrences}
 use Rattle.rules.proofs.Pattern.{agrees-iff}
 use Rattle.rules.proofs.Ranges.{and-left, and-right, and-both, not-true-false, every-at, to-every, among-append, among-none, among-length, among-rising, among-mem, mem-among}
@@ -25,9 +25,10 @@ module _ (t : Packed) (w : Pattern) where
   pub places-none : t .count < w .count → places t w ≡ 0
   places-none h = omega arith
 
-  -- "with t[s+j] = w[j] for each j from 0 to m − 1"
+  -- "with t[s+j] = w[j] for each j from 0 to m − 1", "judged by fixed bits alone"
   pub occurs-bits : (s : ℕ)
-      → Occurs t w s ↔ ((s < places t w) × ((j : ℕ) → j < w .count → bitAt (t .bytes) (s + j) ≡ bitAt (w .bytes) j))
+      → Occurs t w s
+      ↔ ((s < places t w) × ((j : ℕ) → j < w .count → isFixed w j ≡ true → bitAt (t .bytes) (s + j) ≡ bitAt (w .bytes) j))
   occurs-bits s = (
     λ o. (o .inside, λ j l. agrees-iff w j _ .0 (o .same j l)),
     λ h. record { inside = h .0; same = λ j l. agrees-iff w j _ .1 (h .1 j l) },

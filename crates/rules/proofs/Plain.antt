@@ -16,9 +16,9 @@ use Rattle.bits.proofs.Run.{bit-lt}
 use Rattle.bits.proofs.Loads.{bit-in-byte}
 use Rattle.rules.specs.declared.Method.the-variants.{Plain}
 use Rattle.rules.specs.Ranges.{keep}
-use Rattle.rules.specs.Pattern.{Pattern, agrees}
+use Rattle.rules.specs.Pattern.{Pattern, isFixed, agrees}
 use Rattle.rules.specs.Occurrence.{places, matches, occurs}
-use Rattle.rules.specs.Plain.{fromBits, inRow, rowBit, maskBit, rowByte, rowMask, rowFits, plainFinds}
+use Rattle.rules.specs.Plain.{fromBits, inRow, fixedInRow, rowBit, maskBit, rowByte, rowMask, rowFits, plainFinds}
 use Rattle.rules.specs.Step.{finds, ahead, Sound}
 use Rattle.rules.proofs.Ranges.{and-left, and-right, and-both, same-test, every-at, to-every, eq-or-below}
 use Rattle.rules.proofs.Pattern.{agrees-iff}
@@ -66,20 +66,29 @@ module _ (w : Pattern) (i h : ℕ) where
   unfolding inRow
   to-in-row j l u = and-both (le-leb _ _ l) (lt-ltb _ _ u)
 
-  -- what bit j of a row and of its mask is, by whether its index is in the pattern
-  pub mask-bit-is : (j : ℕ) (b : Bool) → inRow w i h j ≡ b → maskBit w i h j ≡ cond b 1 0
+  -- its index is in the pattern, and the bit there is fixed
+  pub fixed-in-row : (j : ℕ) → fixedInRow w i h j ≡ true → (inRow w i h j ≡ true) × (isFixed w (8 * h + j - i) ≡ true)
+  unfolding fixedInRow
+  fixed-in-row j e = (and-left (inRow w i h j) _ e, and-right (inRow w i h j) _ e)
+
+  pub to-fixed-in-row : (j : ℕ) → inRow w i h j ≡ true → isFixed w (8 * h + j - i) ≡ true → fixedInRow w i h j ≡ true
+  unfolding fixedInRow
+  to-fixed-in-row j r f = and-both r f
+
+  -- what bit j of a row and of its mask is, by whether its index is in the pattern and fixed
+  pub mask-bit-is : (j : ℕ) (b : Bool) → fixedInRow w i h j ≡ b → maskBit w i h j ≡ cond b 1 0
   unfolding maskBit
   mask-bit-is j b r = rw r
 
-  pub row-bit-is : (j : ℕ) (b : Bool) → inRow w i h j ≡ b → rowBit w i h j ≡ cond b (bitAt (w .bytes) (8 * h + j - i)) 0
+  pub row-bit-is : (j : ℕ) (b : Bool) → fixedInRow w i h j ≡ b → rowBit w i h j ≡ cond b (bitAt (w .bytes) (8 * h + j - i)) 0
   unfolding rowBit
   row-bit-is j b r = rw r
 
   row-lt : (j : ℕ) → rowBit w i h j < 2
-  row-lt j = rw (row-bit-is j _ refl) (cond-lt (inRow w i h j) _ 0 (bit-lt (w .bytes) (8 * h + j - i)) (omega arith))
+  row-lt j = rw (row-bit-is j _ refl) (cond-lt (fixedInRow w i h j) _ 0 (bit-lt (w .bytes) (8 * h + j - i)) (omega arith))
 
   mask-lt : (j : ℕ) → maskBit w i h j < 2
-  mask-lt j = rw (mask-bit-is j _ refl) (cond-lt (inRow w i h j) 1 0 (omega arith) (omega arith))
+  mask-lt j = rw (mask-bit-is j _ refl) (cond-lt (fixedInRow w i h j) 1 0 (omega arith) (omega arith))
 
   -- and bit j of the row's byte and of its mask's
   pub row-shows : (j : ℕ) → j < 8 → weight (rowByte w i h) (7 - j) ≡ rowBit w i h j
@@ -101,7 +110,8 @@ module _ (w : Pattern) (i h : ℕ) where
     byte-agrees e j l r =
         let both : min (weight x (7 - j)) (maskBit w i h j) ≡ rowBit w i h j =
         sym (masked-bit j l) ∙ ap (λ (y : ℕ). weight y (7 - j)) e ∙ row-shows j l in
-        agrees-iff w (8 * h + j - i) (weight x (7 - j)) .1 (omega (arith, mask-bit-is j true r, row-bit-is j true r))
+        agrees-iff w (8 * h + j - i) (weight x (7 - j)) .1 (λ f.
+        omega (arith, mask-bit-is j true (to-fixed-in-row j r f), row-bit-is j true (to-fixed-in-row j r f)))
 
     pub agrees-byte : ((j : ℕ) → j < 8 → inRow w i h j ≡ true → agrees w (8 * h + j - i) (weight x (7 - j)) ≡ true)
         → bitAnd x (rowMask w i h) ≡ rowByte w i h
@@ -112,12 +122,13 @@ module _ (w : Pattern) (i h : ℕ) where
         (number-lt (rowBit w i h) row-lt 8)
         (λ k l.
         let there : 7 - (7 - k) ≡ k = omega arith in
-        rw there at (each (7 - k) (omega arith) (inRow w i h (7 - k)) refl))
+        rw there at (each (7 - k) (omega arith) (fixedInRow w i h (7 - k)) refl))
       where
-        each : (j : ℕ) → j < 8 → (b : Bool) → inRow w i h j ≡ b
+        each : (j : ℕ) → j < 8 → (b : Bool) → fixedInRow w i h j ≡ b
             → weight (bitAnd x (rowMask w i h)) (7 - j) ≡ weight (rowByte w i h) (7 - j)
         each j l true r =
-            let same = agrees-iff w (8 * h + j - i) (weight x (7 - j)) .0 (a j l r) in
+            let both = fixed-in-row j r in
+            let same = agrees-iff w (8 * h + j - i) (weight x (7 - j)) .0 (a j l (both .0)) (both .1) in
             masked-bit j l ∙ omega (arith, mask-bit-is j true r, row-bit-is j true r) ∙ sym (row-shows j l)
         each j l false r = masked-bit j l ∙ omega (arith, mask-bit-is j false r, row-bit-is j false r) ∙ sym (row-shows j l)
 

@@ -20,13 +20,13 @@ use Rattle.rules.proofs.Step.{Moved, one-place}
 
 module _ (t : Packed) (w : Pattern) (s : ℕ) where
   -- the test of a length, at each bit
-  pub prefix-at : (r : ℕ) → prefixEnds t w s r ≡ true → (j : ℕ) → j < r → agrees w j (bitAt (t .bytes) (s + w .count - r + j)) ≡ true
-  unfolding prefixEnds
-  prefix-at r h j l = every-at r _ h j l
-
   pub to-prefix : (r : ℕ) → ((j : ℕ) → j < r → agrees w j (bitAt (t .bytes) (s + w .count - r + j)) ≡ true) → prefixEnds t w s r ≡ true
   unfolding prefixEnds
   to-prefix r h = to-every r _ h
+
+  pub prefix-at : (r : ℕ) → prefixEnds t w s r ≡ true → (j : ℕ) → j < r → agrees w j (bitAt (t .bytes) (s + w .count - r + j)) ≡ true
+  unfolding prefixEnds
+  prefix-at r h j l = every-at r _ h j l
 
   -- length 0 always is one
   pub prefix-none : prefixEnds t w s 0 ≡ true

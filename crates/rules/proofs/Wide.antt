@@ -39,13 +39,13 @@ module _ (t : Packed) (w : Pattern) (s i : ℕ) where
   unfolding counts
   is-counts q h = and-both (lt-ltb _ _ (h .inside)) (and-both (le-leb _ _ (h .from)) (lt-ltb _ _ (h .to)))
 
-  pub stands-at : stands t w s i ≡ true → (q : ℕ) → q < window w → Counts q → agrees w (q - i) (bitAt (t .bytes) (s + q)) ≡ true
-  unfolding stands
-  stands-at h q l c = implies-to (counts t w s i q) _ (every-at (window w) _ h q l) (is-counts q c)
-
   pub to-stands : ((q : ℕ) → Counts q → agrees w (q - i) (bitAt (t .bytes) (s + q)) ≡ true) → stands t w s i ≡ true
   unfolding stands
   to-stands h = to-every (window w) _ (λ q l. to-implies (counts t w s i q) _ (λ c. h q (counts-is q c)))
+
+  pub stands-at : stands t w s i ≡ true → (q : ℕ) → q < window w → Counts q → agrees w (q - i) (bitAt (t .bytes) (s + q)) ≡ true
+  unfolding stands
+  stands-at h q l c = implies-to (counts t w s i q) _ (every-at (window w) _ h q l) (is-counts q c)
 
   -- The rule of a flag, also of one whose place is not below E: bits from n on are not looked at.
   pub flag-iff : i < 64 → (stands t w s i ≡ true) ↔ ((q : ℕ) → Counts q → agrees w (q - i) (bitAt (t .bytes) (s + q)) ≡ true)

@@ -2,6 +2,7 @@
 -- these definitions.
 pub mod Ranges
 pub mod Pattern
+pub mod Wild
 pub mod Occurrence
 pub mod Plain
 pub mod Hash
@@ -11,4 +12,5 @@ pub mod Tail
 pub mod Step
 pub mod Scratch
 pub mod Machine
+pub mod Before
 pub mod Papers

@@ -3,11 +3,15 @@
 use Prim.Native.Nat.{ℕ, zero, suc, _-_, _^_}
 use mathlib.Core.List.{List, [], _∷_}
 use lib.ListN.{replicate}
-use Rattle.bits.specs.Packed.{Packed}
+use Rattle.bits.specs.Packed.{Packed, bytesFor}
 use Rattle.rules.specs.declared.Method.{Method}
 use Rattle.rules.specs.Pattern.{Pattern}
 use Rattle.rules.specs.Occurrence.{places, occurrences}
 use Rattle.rules.specs.Machine.{Run, run}
+
+-- so many bits, each fixed
+abbrev pub fixedPattern : List ℕ → ℕ → Pattern
+fixedPattern bytes m = record { bytes = bytes; fixed = replicate (bytesFor m) 255; count = m }
 
 -- "R1 = 011001001000100110100101000101001001"
 abbrev pub R1 : Packed
@@ -15,7 +19,7 @@ R1 = record { bytes = 0b01100100 ∷ 0b10001001 ∷ 0b10100101 ∷ 0b00010100 �
 
 -- "V1 = 0100110100"
 abbrev pub V1 : Pattern
-V1 = record { bytes = 0b01001101 ∷ 0b00000000 ∷ []; count = 10 }
+V1 = fixedPattern (0b01001101 ∷ 0b00000000 ∷ []) 10
 
 -- "R2 = 110010 five times, then 110"
 abbrev pub R2 : Packed
@@ -23,7 +27,7 @@ R2 = record { bytes = 0b11001011 ∷ 0b00101100 ∷ 0b10110010 ∷ 0b11001011 �
 
 -- "V2 = 110010110010110010110"
 abbrev pub V2 : Pattern
-V2 = record { bytes = 0b11001011 ∷ 0b00101100 ∷ 0b10110000 ∷ []; count = 21 }
+V2 = fixedPattern (0b11001011 ∷ 0b00101100 ∷ 0b10110000 ∷ []) 21
 
 -- the empty text, and 11111
 abbrev pub empty : Packed
@@ -34,17 +38,45 @@ ones5 = record { bytes = 0b11111000 ∷ []; count = 5 }
 
 -- the patterns 1 and 111
 abbrev pub one : Pattern
-one = record { bytes = 0b10000000 ∷ []; count = 1 }
+one = fixedPattern (0b10000000 ∷ []) 1
 
 abbrev pub ones3 : Pattern
-ones3 = record { bytes = 0b11100000 ∷ []; count = 3 }
+ones3 = fixedPattern (0b11100000 ∷ []) 3
 
 -- a window, 1001, whose r = 3 comes from the prefix 001 of 0011, which does not end the pattern itself
 abbrev pub tailText : Packed
 tailText = record { bytes = 0b10010011 ∷ []; count = 8 }
 
 abbrev pub tailPattern : Pattern
-tailPattern = record { bytes = 0b00110000 ∷ []; count = 4 }
+tailPattern = fixedPattern (0b00110000 ∷ []) 4
+
+-- V1 with the field of its bits 3 to 5 wild: 010???0100
+abbrev pub V1Wild : Pattern
+V1Wild = record { bytes = V1 .bytes; fixed = 0b11100011 ∷ 0b11000000 ∷ []; count = 10 }
+
+-- the same with ones in place of its own bits at the wild ones, and in both runs ones from bit 10 on
+abbrev pub V1WildOnes : Pattern
+V1WildOnes = record { bytes = 0b01011101 ∷ 0b00111111 ∷ []; fixed = 0b11100011 ∷ 0b11111111 ∷ []; count = 10 }
+
+-- V2 with four bits wild: 1100????0010110010110
+abbrev pub V2Wild : Pattern
+V2Wild = record { bytes = V2 .bytes; fixed = 0b11110000 ∷ 0b11111111 ∷ 0b11111000 ∷ []; count = 21 }
+
+-- three wild bits
+abbrev pub wild3 : Pattern
+wild3 = record { bytes = 0b01000000 ∷ []; fixed = 0b00000000 ∷ []; count = 3 }
+
+-- ?1, its wild bit having the value 1
+abbrev pub wildOne : Pattern
+wildOne = record { bytes = 0b11000000 ∷ []; fixed = 0b01000000 ∷ []; count = 2 }
+
+-- 1000000?00000010, which shows the byte 10000001 from index 0 and from index 7, each time through its wild bit, and a text that
+-- has it at both places
+abbrev pub skipPattern : Pattern
+skipPattern = record { bytes = 0b10000000 ∷ 0b00000010 ∷ []; fixed = 0b11111110 ∷ 0b11111111 ∷ []; count = 16 }
+
+abbrev pub skipText : Packed
+skipText = record { bytes = 0b01000000 ∷ 0b10000001 ∷ 0b00000010 ∷ []; count = 24 }
 
 -- 200 zero bits
 abbrev pub zeros200 : Packed

@@ -7,7 +7,7 @@ use lib.Bits.{bitAnd}
 use lib.ListN.{getD}
 use Rattle.bits.specs.Packed.{Packed, bitAt, bytesFor}
 use Rattle.rules.specs.Ranges.{every, keep}
-use Rattle.rules.specs.Pattern.{Pattern}
+use Rattle.rules.specs.Pattern.{Pattern, isFixed}
 
 -- the number of k bits whose bit j from the left is f j
 unfoldable pub fromBits : (ℕ → ℕ) → ℕ → ℕ
@@ -18,13 +18,17 @@ fromBits f (suc k) = fromBits f k * 2 + f k
 unfoldable pub inRow : Pattern → ℕ → ℕ → ℕ → Bool
 inRow w i h j = leb i (8 * h + j) && ltb (8 * h + j - i) (w .count)
 
--- "bit j counted from the left is w[8h − i + j] where that index is in 0..m−1, else 0"
+-- it is, and the pattern's bit there is fixed: "hits are now judged by fixed bits alone" (document 02)
+unfoldable pub fixedInRow : Pattern → ℕ → ℕ → ℕ → Bool
+fixedInRow w i h j = inRow w i h j && isFixed w (8 * h + j - i)
+
+-- "bit j counted from the left is w[8h − i + j] where that index is in 0..m−1, else 0", of the fixed bits
 unfoldable pub rowBit : Pattern → ℕ → ℕ → ℕ → ℕ
-rowBit w i h j = cond (inRow w i h j) (bitAt (w .bytes) (8 * h + j - i)) 0
+rowBit w i h j = cond (fixedInRow w i h j) (bitAt (w .bytes) (8 * h + j - i)) 0
 
 -- "the row's mask has 1 there, else 0"
 unfoldable pub maskBit : Pattern → ℕ → ℕ → ℕ → ℕ
-maskBit w i h j = cond (inRow w i h j) 1 0
+maskBit w i h j = cond (fixedInRow w i h j) 1 0
 
 unfoldable pub rowByte : Pattern → ℕ → ℕ → ℕ
 rowByte w i h = fromBits (rowBit w i h) 8

@@ -7,10 +7,10 @@ use Rattle.rules.specs.declared.Method.{Method}
 use Rattle.rules.specs.declared.Method.the-variants.{Plain, Hash, Skip, Wide, Tail}
 
 -- for a pattern of m bits: "Hash should run in 256 cells, skip in 256 + m, wide in 2 × (63 + m), plain in
--- 16 × ceil((m+7)/8) and tail in 2"
+-- 16 × ceil((m+7)/8) and tail in 2"; and with wild bits hash's "scratch grows to 512 cells"
 abbrev pub scratchCells : Method → ℕ → ℕ
 scratchCells Plain m = 16 * bytesFor (m + 7)
-scratchCells Hash m = 256
+scratchCells Hash m = 512
 scratchCells Skip m = 256 + m
 scratchCells Wide m = 2 * (63 + m)
 scratchCells Tail m = 2

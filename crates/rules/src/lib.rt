@@ -21,7 +21,7 @@ impl Method {
         let k = m as u64;
         match self {
             Method::Plain => 16 * bits::bytes_for(k + 7),
-            Method::Hash => 256,
+            Method::Hash => 512,
             Method::Skip => 256 + k,
             Method::Wide => 2 * (63 + k),
             Method::Tail => 2,

@@ -32,13 +32,13 @@ neither false b e = (refl, e)
 -- a call that no row refuses
 pub allowed : (q : Request) → AllFail (rows q) → Allowed (q .method) (q .text) (q .pattern) (q .mark) (q .scratch)
 unfolding rows
-allowed q (a, (b, (c, (d, (e, (f, (g, h))))))) =
+allowed q (a, (b, (c, (d, (d', (e, (f, (g, h)))))))) =
     let m = neither (eqb (q .pattern .count) 0) (ltb 2048 (q .pattern .count)) c in
     let some = eqb-false (q .pattern .count) 0 (m .0) in
     record {
       few-bits = ltb-false _ _ a;
       bytes-there = ltb-false _ _ b;
-      pattern = record { some-bits = omega (arith, some); few-bits = ltb-false _ _ (m .1); bytes-there = ltb-false _ _ d; fit = e };
+      pattern = record { some-bits = omega (arith, some); few-bits = ltb-false _ _ (m .1); bytes-there = ltb-false _ _ d; fixed-there = ltb-false _ _ d'; fit = e };
       inside = ltb-false _ _ f;
       room = ltb-false _ _ g;
     }

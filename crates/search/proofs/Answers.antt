@@ -12,7 +12,7 @@ use Rattle.search.specs.declared.Answer.{Answer}
 use Rattle.search.specs.declared.Outcome.{Outcome}
 use Rattle.search.specs.declared.Outcome.the-variants.{Accepted, Refused}
 use Rattle.search.specs.declared.Refusal.{Refusal}
-use Rattle.search.specs.declared.Refusal.the-variants.{TextTooLong, TextBytesMissing, PatternLength, PatternBytesMissing, PatternUnfit, BeyondEnd, ScratchTooShort}
+use Rattle.search.specs.declared.Refusal.the-variants.{TextTooLong, TextBytesMissing, PatternLength, PatternBytesMissing, FixedBytesMissing, PatternUnfit, BeyondEnd, ScratchTooShort}
 use Rattle.search.specs.declared.Stop.{Stop}
 use Rattle.search.specs.declared.Stop.the-variants.{Done, Full, Spent}
 use Rattle.rules.specs.Scratch.{scratchCells}
@@ -27,8 +27,9 @@ refusalOf k =
     (cond (eqb k 2) TextBytesMissing
     (cond (eqb k 3) PatternLength
     (cond (eqb k 4) PatternBytesMissing
+    (cond (eqb k 17) FixedBytesMissing
     (cond (eqb k 5) PatternUnfit
-    (cond (eqb k 6) BeyondEnd ScratchTooShort)))))
+    (cond (eqb k 6) BeyondEnd ScratchTooShort))))))
 
 refusal-back : (r : Refusal) → refusalOf (numberOfRefusal r) ≡ r
 unfolding refusalOf
@@ -36,6 +37,7 @@ refusal-back TextTooLong = refl
 refusal-back TextBytesMissing = refl
 refusal-back PatternLength = refl
 refusal-back PatternBytesMissing = refl
+refusal-back FixedBytesMissing = refl
 refusal-back PatternUnfit = refl
 refusal-back BeyondEnd = refl
 refusal-back ScratchTooShort = refl
@@ -135,9 +137,9 @@ numbered : (q : Request) (k : ℕ) → verdict q ≡ refused k → numberOfRefus
 unfolding refusalOf Each
 numbered q k h =
     let g = refused-iff q k .0 h in
-    let there : List·Memᴰ (g .row .number) (1 ∷ 2 ∷ 3 ∷ 4 ∷ 5 ∷ 6 ∷ 7 ∷ []) =
+    let there : List·Memᴰ (g .row .number) (1 ∷ 2 ∷ 3 ∷ 4 ∷ 17 ∷ 5 ∷ 6 ∷ 7 ∷ []) =
     rw (in-order q) at (rw (← (g .here)) at (number-in (g .earlier) (g .row) (g .others))) in
-    at-member (λ n. numberOfRefusal (refusalOf n) ≡ n) _ (refl, (refl, (refl, (refl, (refl, (refl, (refl, tt))))))) k (rw (g .number) at there)
+    at-member (λ n. numberOfRefusal (refusalOf n) ≡ n) _ (refl, (refl, (refl, (refl, (refl, (refl, (refl, (refl, tt)))))))) k (rw (g .number) at there)
 
 -- an answer for each request
 pub record Answered (q : Request) : Type 0 where

@@ -26,8 +26,8 @@ pub accepted-left : (q : Request) → verdict q ≡ accepted (machine q) → Lef
 unfolding machine rows
 accepted-left q h =
     let fail = accepted-iff q .0 h in
-    let fit = fail .1 .1 .1 .1 .0 in
-    let low = fail .1 .1 .1 .1 .1 .0 in
+    let fit = fail .1 .1 .1 .1 .1 .0 in
+    let low = fail .1 .1 .1 .1 .1 .1 .0 in
     left (q .method) (q .text) (q .pattern) fit (q .budget) (q .mark) (length (q .list)) (omega (arith, ltb-false))
 
 -- What one call does, refused or accepted.

@@ -9,9 +9,9 @@ use Rattle.rules.specs.declared.Method.the-variants.{Plain}
 use Rattle.rules.specs.Papers.{V1}
 use Rattle.bits.specs.Packed.{bitAt, bitsAt}
 use Rattle.rules.specs.Ranges.{every, among, least, greatest}
-use Rattle.rules.specs.Pattern.{agrees}
+use Rattle.rules.specs.Pattern.{isFixed, agrees}
 use Rattle.rules.specs.Occurrence.{matches, occurs, occurrences}
-use Rattle.rules.specs.Plain.{fromBits, inRow, rowBit, maskBit, rowByte, rowMask, rowFits, plainFinds}
+use Rattle.rules.specs.Plain.{fromBits, inRow, fixedInRow, rowBit, maskBit, rowByte, rowMask, rowFits, plainFinds}
 use Rattle.rules.specs.Hash.{meets, hashOf, hashAgain, lastEight, hashFinds, hashNext}
 use Rattle.rules.specs.Skip.{shows, shownAt, skipFinds}
 use Rattle.rules.specs.Wide.{counts, stands, flagged, wideFinds, lastIndex, wideNext}
@@ -27,10 +27,10 @@ use Rattle.search.proofs.Verdict.{accepted-iff}
 long-text : (bytes : List ℕ) → 2 ^ 27 ≤ length bytes → verdict (ask Plain (long bytes) V1 0 mostCells) ≡ accepted (machine (ask Plain (long bytes) V1 0 mostCells))
 unfolding rows
 long-text bytes h =
-    accepted-iff (ask Plain (long bytes) V1 0 mostCells) .1 (refl, (le-ltb (length bytes) (2 ^ 27) h, (refl, (refl, (refl, (refl, (refl, tt)))))))
+    accepted-iff (ask Plain (long bytes) V1 0 mostCells) .1 (refl, (le-ltb (length bytes) (2 ^ 27) h, (refl, (refl, (refl, (refl, (refl, (refl, tt))))))))
 
 pub examples : Examples
-unfolding bitAt bitsAt every among least greatest agrees matches occurs occurrences fromBits inRow rowBit maskBit rowByte rowMask rowFits plainFinds meets hashOf hashAgain lastEight hashFinds hashNext shows shownAt skipFinds counts stands flagged wideFinds lastIndex wideNext prefixEnds tailLength tailFinds tailNext finds ahead next stopped cut after run rows judge verdict hashVerdict scratchVerdict
+unfolding bitAt bitsAt every among least greatest isFixed agrees matches occurs occurrences fromBits inRow fixedInRow rowBit maskBit rowByte rowMask rowFits plainFinds meets hashOf hashAgain lastEight hashFinds hashNext shows shownAt skipFinds counts stands flagged wideFinds lastIndex wideNext prefixEnds tailLength tailFinds tailNext finds ahead next stopped cut after run rows judge machine verdict hashVerdict scratchVerdict
 examples =
     record {
       no-1 = refl;
@@ -47,7 +47,7 @@ examples =
       plain-48 = refl;
       no-7 = refl;
       no-7-careless = refl;
-      hash-256 = refl;
+      hash-512 = refl;
       no-7-hash = refl;
       skip-277 = refl;
       no-7-skip = refl;
@@ -57,6 +57,15 @@ examples =
       no-7-tail = refl;
       all-hold = refl;
       from-5 = refl;
+      no-17 = refl;
+      no-17-empty = refl;
+      no-4-first = refl;
+      from-17 = refl;
+      fixed-enough = refl;
+      h-17 = refl;
+      h-4-first = refl;
+      h-17-first = refl;
+      wild-line = refl;
       from-6 = refl;
       long-text = long-text;
       long-pattern = refl;

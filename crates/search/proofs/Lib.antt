@@ -5,6 +5,7 @@ pub mod Scratch
 pub mod Calls
 pub mod Progress
 pub mod Padding
+pub mod Wild
 pub mod Examples
 pub mod Ending
 pub mod Accepting

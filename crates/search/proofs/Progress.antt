@@ -25,7 +25,7 @@ module _ (q : Request) (a : Answer) (list scratch : List ℕ) (made : Searched q
   -- the method takes the pattern
   fit : unfit (q .method) (q .pattern .count) ≡ false
   unfolding rows
-  fit = accepted-iff q .0 (made .verdict-is) .1 .1 .1 .1 .0
+  fit = accepted-iff q .0 (made .verdict-is) .1 .1 .1 .1 .1 .0
 
   -- with no cell the machine stays at an occurrence
   stays-here : Occurs (q .text) (q .pattern) (q .mark) → 0 < q .budget → length (q .list) ≡ 0

@@ -41,20 +41,25 @@ module _ (q : Request) where
           row-4 h = simp (le-ltb _ _ a, le-ltb _ _ b, ne-eqb _ _ c, le-ltb _ _ d, lt-ltb _ _ h)
 
           module _ (e : bytesFor (q .pattern .count) ≤ length (q .pattern .bytes)) where
-            pub row-5 : unfit (q .method) (q .pattern .count) ≡ true → Comes (refused 5)
+            pub row-17 : length (q .pattern .fixed) < bytesFor (q .pattern .count) → Comes (refused 17)
             unfolding checkVerdict rows judge
-            row-5 h = simp (le-ltb _ _ a, le-ltb _ _ b, ne-eqb _ _ c, le-ltb _ _ d, le-ltb _ _ e, h)
+            row-17 h = simp (le-ltb _ _ a, le-ltb _ _ b, ne-eqb _ _ c, le-ltb _ _ d, le-ltb _ _ e, lt-ltb _ _ h)
 
-            module _ (f : unfit (q .method) (q .pattern .count) ≡ false) where
-              pub row-6 : places (q .text) (q .pattern) < q .mark → Comes (refused 6)
+            module _ (e' : bytesFor (q .pattern .count) ≤ length (q .pattern .fixed)) where
+              pub row-5 : unfit (q .method) (q .pattern .count) ≡ true → Comes (refused 5)
               unfolding checkVerdict rows judge
-              row-6 h = simp (le-ltb _ _ a, le-ltb _ _ b, ne-eqb _ _ c, le-ltb _ _ d, le-ltb _ _ e, f, lt-ltb _ _ h)
+              row-5 h = simp (le-ltb _ _ a, le-ltb _ _ b, ne-eqb _ _ c, le-ltb _ _ d, le-ltb _ _ e, le-ltb _ _ e', h)
 
-              module _ (g : q .mark ≤ places (q .text) (q .pattern)) where
-                pub row-7 : length (q .scratch) < scratchCells (q .method) (q .pattern .count) → Comes (refused 7)
+              module _ (f : unfit (q .method) (q .pattern .count) ≡ false) where
+                pub row-6 : places (q .text) (q .pattern) < q .mark → Comes (refused 6)
                 unfolding checkVerdict rows judge
-                row-7 h = simp (le-ltb _ _ a, le-ltb _ _ b, ne-eqb _ _ c, le-ltb _ _ d, le-ltb _ _ e, f, le-ltb _ _ g, lt-ltb _ _ h)
+                row-6 h = simp (le-ltb _ _ a, le-ltb _ _ b, ne-eqb _ _ c, le-ltb _ _ d, le-ltb _ _ e, le-ltb _ _ e', f, lt-ltb _ _ h)
 
-                pub no-row : scratchCells (q .method) (q .pattern .count) ≤ length (q .scratch) → Comes (accepted tt)
-                unfolding checkVerdict rows judge
-                no-row h = simp (le-ltb _ _ a, le-ltb _ _ b, ne-eqb _ _ c, le-ltb _ _ d, le-ltb _ _ e, f, le-ltb _ _ g, le-ltb _ _ h)
+                module _ (g : q .mark ≤ places (q .text) (q .pattern)) where
+                  pub row-7 : length (q .scratch) < scratchCells (q .method) (q .pattern .count) → Comes (refused 7)
+                  unfolding checkVerdict rows judge
+                  row-7 h = simp (le-ltb _ _ a, le-ltb _ _ b, ne-eqb _ _ c, le-ltb _ _ d, le-ltb _ _ e, le-ltb _ _ e', f, le-ltb _ _ g, lt-ltb _ _ h)
+
+                  pub no-row : scratchCells (q .method) (q .pattern .count) ≤ length (q .scratch) → Comes (accepted tt)
+                  unfolding checkVerdict rows judge
+                  no-row h = simp (le-ltb _ _ a, le-ltb _ _ b, ne-eqb _ _ c, le-ltb _ _ d, le-ltb _ _ e, le-ltb _ _ e', f, le-ltb _ _ g, le-ltb _ _ h)

@@ -70,7 +70,7 @@ not-given a k (r ∷ rest) s h = go (r .holds) refl (not-given a k rest (s .1)) 
 -- no refusal has the number 0
 pub search-not-zero : (q : Request) → verdict q ≡ refused 0 → ⊥
 unfolding verdict rows
-search-not-zero q = not-given (machine q) 0 (rows q) (refl, (refl, (refl, (refl, (refl, (refl, (refl, tt)))))))
+search-not-zero q = not-given (machine q) 0 (rows q) (refl, (refl, (refl, (refl, (refl, (refl, (refl, (refl, tt))))))))
 
 pub cells-not-zero : (x : Method) (m : ℕ) → scratchVerdict x m ≡ refused 0 → ⊥
 unfolding scratchVerdict
@@ -87,8 +87,8 @@ needs q k told =
     let figure = told-figure (q .method) (q .pattern .count) k told in
     record {
       enough = λ h.
-          not-given (machine q) 7 (rows q) (refl, (refl, (refl, (refl, (refl, (refl, (le-ltb _ _ (rw figure at h), tt)))))));
+          not-given (machine q) 7 (rows q) (refl, (refl, (refl, (refl, (refl, (refl, (refl, (le-ltb _ _ (rw figure at h), tt))))))));
       least = λ few r h.
-          let room = ltb-false (length (q .scratch)) (scratchCells (q .method) (q .pattern .count)) (accepted-fail q r h .1 .1 .1 .1 .1 .1 .0) in
+          let room = ltb-false (length (q .scratch)) (scratchCells (q .method) (q .pattern .count)) (accepted-fail q r h .1 .1 .1 .1 .1 .1 .1 .0) in
           omega (arith, room, figure);
     }

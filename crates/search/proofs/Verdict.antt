@@ -9,8 +9,8 @@ use native.Mathlib.Omega.{arith}
 use Rattle.rules.specs.Machine.{Run}
 use Rattle.search.specs.Verdict.{Request, Row, rows, Verdict, refused, accepted, judge, AllFail, Given, machine, verdict}
 
--- "A search checks 1 to 7 in that order."
-pub in-order : (q : Request) → map (λ (r : Row). r .number) (rows q) ≡ 1 ∷ 2 ∷ 3 ∷ 4 ∷ 5 ∷ 6 ∷ 7 ∷ []
+-- "A search checks 1 to 7 in that order", and "17, right after 4"
+pub in-order : (q : Request) → map (λ (r : Row). r .number) (rows q) ≡ 1 ∷ 2 ∷ 3 ∷ 4 ∷ 17 ∷ 5 ∷ 6 ∷ 7 ∷ []
 unfolding rows
 in-order q = refl
 

@@ -5,7 +5,7 @@ use mathlib.Core.Path.{_≡_}
 use mathlib.Core.Bool.{true}
 use mathlib.Core.List.{List, [], _∷_}
 use lib.ListN.{length, replicate}
-use Rattle.bits.specs.Packed.{Packed}
+use Rattle.bits.specs.Packed.{Packed, bytesFor}
 use Rattle.rules.specs.declared.Method.{Method}
 use Rattle.rules.specs.declared.Method.the-variants.{Plain, Hash, Skip, Wide, Tail}
 use Rattle.rules.specs.Pattern.{Pattern}
@@ -13,7 +13,7 @@ use Rattle.rules.specs.Wide.{stands}
 use Rattle.rules.specs.Scratch.{mostCells}
 use Rattle.rules.specs.Machine.{done}
 use Rattle.search.specs.Verdict.{Request, refused, accepted, machine, verdict, hashVerdict, scratchVerdict}
-use Rattle.rules.specs.Papers.{R1, V1, R2, V2, ones5, ones3, wholeRun}
+use Rattle.rules.specs.Papers.{R1, V1, R2, V2, V1Wild, ones5, ones3, wholeRun}
 
 -- a request with a mark and so many cells of scratch
 abbrev pub ask : Method → Packed → Pattern → ℕ → ℕ → Request
@@ -32,8 +32,13 @@ ask x t w s cells =
 abbrev pub text : ℕ → ℕ → Packed
 text n bytes = record { bytes = replicate bytes 0; count = n }
 
+-- so many bits in so many bytes as a pattern, and so many bytes of ones as its second run
+abbrev pub fixedFor : ℕ → ℕ → ℕ → Pattern
+fixedFor m bytes more = record { bytes = replicate bytes 0; fixed = replicate more 255; count = m }
+
+-- a pattern of so many bits in so many bytes, each bit fixed
 abbrev pub pattern : ℕ → ℕ → Pattern
-pattern m bytes = record { bytes = replicate bytes 0; count = m }
+pattern m bytes = fixedFor m bytes (bytesFor m)
 
 -- 2^30 bits of any bytes
 abbrev pub long : List ℕ → Packed
@@ -57,8 +62,8 @@ pub record Examples : Type 0 where
   pub plain-48 : verdict (ask Plain R1 V1 0 48) ≡ accepted (machine (ask Plain R1 V1 0 48))
   pub no-7 : verdict (ask Plain R1 V1 0 47) ≡ refused 7
   pub no-7-careless : verdict (ask Plain R1 V1 0 32) ≡ refused 7
-  pub hash-256 : verdict (ask Hash R1 V1 0 256) ≡ accepted (machine (ask Hash R1 V1 0 256))
-  pub no-7-hash : verdict (ask Hash R1 V1 0 255) ≡ refused 7
+  pub hash-512 : verdict (ask Hash R1 V1 0 512) ≡ accepted (machine (ask Hash R1 V1 0 512))
+  pub no-7-hash : verdict (ask Hash R1 V1 0 511) ≡ refused 7
   pub skip-277 : verdict (ask Skip R2 V2 0 277) ≡ accepted (machine (ask Skip R2 V2 0 277))
   pub no-7-skip : verdict (ask Skip R2 V2 0 276) ≡ refused 7
   pub wide-146 : verdict (ask Wide R1 V1 0 146) ≡ accepted (machine (ask Wide R1 V1 0 146))
@@ -68,6 +73,12 @@ pub record Examples : Type 0 where
   -- where several conditions hold the first one is given
   pub all-hold : verdict (ask Hash (text 1073741825 1) (pattern 0 0) 1 0) ≡ refused 1
   pub from-5 : verdict (ask Hash R1 (pattern 7 1) 31 0) ≡ refused 5
+  -- "Refused: 17, right after 4": after 4, and before 5, 6 and 7
+  pub no-17 : verdict (ask Plain R1 (fixedFor 9 2 1) 0 mostCells) ≡ refused 17
+  pub no-17-empty : verdict (ask Plain R1 (fixedFor 1 1 0) 0 mostCells) ≡ refused 17
+  pub no-4-first : verdict (ask Plain R1 (fixedFor 9 1 1) 0 mostCells) ≡ refused 4
+  pub from-17 : verdict (ask Hash R1 (fixedFor 7 1 0) 31 0) ≡ refused 17
+  pub fixed-enough : verdict (ask Plain R1 (fixedFor 9 2 2) 0 mostCells) ≡ accepted (machine (ask Plain R1 (fixedFor 9 2 2) 0 mostCells))
   pub from-6 : verdict (ask Wide R1 V1 28 0) ≡ refused 6
   -- "Accepted: n = 2^30, m = 2,048, hash with m = 8, skip with m = 15, mark = E."
   pub long-text : (bytes : List ℕ) → 2 ^ 27 ≤ length bytes → verdict (ask Plain (long bytes) V1 0 mostCells) ≡ accepted (machine (ask Plain (long bytes) V1 0 mostCells))
@@ -90,6 +101,11 @@ pub record Examples : Type 0 where
   pub h-3 : hashVerdict (pattern 0 1) 0 ≡ refused 3
   pub h-4 : hashVerdict (pattern 9 1) 0 ≡ refused 4
   pub h-5 : hashVerdict (pattern 7 1) 0 ≡ refused 5
+  pub h-17 : hashVerdict (fixedFor 9 2 1) 0 ≡ refused 17
+  pub h-4-first : hashVerdict (fixedFor 9 1 1) 0 ≡ refused 4
+  pub h-17-first : hashVerdict (fixedFor 7 1 0) 0 ≡ refused 17
+  -- with a field of V1 wild its second occurrence is found
+  pub wild-line : verdict (ask Hash R1 V1Wild 0 512) ≡ accepted (record { steps = 9; written = 11 ∷ 22 ∷ []; mark = 27; ending = done })
   -- the figure by itself: 3 comes before 5
   pub cells-value : scratchVerdict Skip 21 ≡ accepted 277
   pub cells-3 : scratchVerdict Hash 0 ≡ refused 3

@@ -12,7 +12,7 @@ use Rattle.rules.specs.declared.Method.the-variants.{Hash}
 use Rattle.search.specs.declared.Outcome.{Outcome}
 use Rattle.search.specs.declared.Outcome.the-variants.{Accepted, Refused}
 use Rattle.search.specs.declared.Refusal.{Refusal}
-use Rattle.search.specs.declared.Refusal.the-variants.{TextTooLong, TextBytesMissing, PatternLength, PatternBytesMissing, PatternUnfit, BeyondEnd, ScratchTooShort}
+use Rattle.search.specs.declared.Refusal.the-variants.{TextTooLong, TextBytesMissing, PatternLength, PatternBytesMissing, FixedBytesMissing, PatternUnfit, BeyondEnd, ScratchTooShort}
 use Rattle.search.specs.declared.Stop.{Stop}
 use Rattle.search.specs.declared.Stop.the-variants.{Done, Full, Spent}
 use Rattle.rules.specs.Pattern.{Pattern}
@@ -53,6 +53,10 @@ patternLength m = record { number = 3; holds = eqb m 0 || ltb 2048 m }
 abbrev pub patternBytesMissing : Pattern → Row
 patternBytesMissing w = record { number = 4; holds = ltb (length (w .bytes)) (bytesFor (w .count)) }
 
+-- "17, right after 4, when the second run has fewer than ceil(m/8) bytes"
+abbrev pub fixedBytesMissing : Pattern → Row
+fixedBytesMissing w = record { number = 17; holds = ltb (length (w .fixed)) (bytesFor (w .count)) }
+
 -- "word too short: m below 8 for hash and H, below 15 for skip"; and for tail a word of more than 64 bits "gets 5"
 abbrev pub patternUnfit : Method → ℕ → Row
 patternUnfit x m = record { number = 5; holds = unfit x m }
@@ -65,13 +69,14 @@ markBeyond t w s = record { number = 6; holds = ltb (places t w) s }
 abbrev pub scratchTooShort : Method → ℕ → List ℕ → Row
 scratchTooShort x m cells = record { number = 7; holds = ltb (length cells) (scratchCells x m) }
 
--- "A search checks 1 to 7 in that order."
+-- "A search checks 1 to 7 in that order", and 17 right after 4.
 unfoldable pub rows : Request → List Row
 rows q =
     textTooLong (q .text)
     ∷ textBytesMissing (q .text)
     ∷ patternLength (q .pattern .count)
     ∷ patternBytesMissing (q .pattern)
+    ∷ fixedBytesMissing (q .pattern)
     ∷ patternUnfit (q .method) (q .pattern .count)
     ∷ markBeyond (q .text) (q .pattern) (q .mark)
     ∷ scratchTooShort (q .method) (q .pattern .count) (q .scratch)
@@ -111,10 +116,10 @@ machine q = run (q .method) (q .text) (q .pattern) (q .budget) (q .mark) (length
 unfoldable pub verdict : Request → Verdict Run
 verdict q = judge (rows q) (machine q)
 
--- "H(B) can also be had by itself from a word and a value, with refusals 3, 4, 5."
+-- "H(B) can also be had by itself from a word and a value, with refusals 3, 4, 5", and 17 right after 4.
 unfoldable pub hashVerdict : Pattern → ℕ → Verdict ℕ
 hashVerdict w B =
-    judge (patternLength (w .count) ∷ patternBytesMissing w ∷ patternUnfit Hash (w .count) ∷ []) (hashOf w B)
+    judge (patternLength (w .count) ∷ patternBytesMissing w ∷ fixedBytesMissing w ∷ patternUnfit Hash (w .count) ∷ []) (hashOf w B)
 
 -- The cells of scratch that a method takes for a pattern of m bits, by themselves: refused with 3 for m, then with 5 where the
 -- method does not take m.
@@ -127,6 +132,7 @@ numberOfRefusal TextTooLong = 1
 numberOfRefusal TextBytesMissing = 2
 numberOfRefusal PatternLength = 3
 numberOfRefusal PatternBytesMissing = 4
+numberOfRefusal FixedBytesMissing = 17
 numberOfRefusal PatternUnfit = 5
 numberOfRefusal BeyondEnd = 6
 numberOfRefusal ScratchTooShort = 7

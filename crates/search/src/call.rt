@@ -5,10 +5,10 @@ use crate::Method;
 use crate::Stop;
 use bits::Place;
 use matcher::compare;
-use matcher::compare::Head;
+use matcher::compare::Known;
 ghost use Prim.Native.Nat.{_^_, _≤_};
 ghost use Rattle.rules.specs.Occurrence.{places};
-ghost use Rattle.matcher.specs.Progress.{textOf, patternOf, HeadOf, Ready};
+ghost use Rattle.matcher.specs.Progress.{textOf, patternOf, textIn, patternIn, HeadOf, Ready};
 ghost use Rattle.search.specs.Parts.{Ran, Allowed, Leaves, Tells};
 
 // What the steps of a call leave: the mark, the steps made, the places written, and whether a place found no cell.
@@ -25,26 +25,34 @@ pub fn run(
     mark: Mark,
     method: Method,
     text: &[u8],
-    n: u32,
     pattern: &[u8],
-    m: u32,
-    h: Head,
+    fixed: &[u8],
+    known: Known,
     cells: &[u64],
     budget: u32,
     list: &mut [u32],
 ) -> Left
-    requires { ⌜ Ready method (textOf (now text) n) (patternOf (now pattern) m) (now cells) ⌝ }
-    requires { ⌜ HeadOf (patternOf (now pattern) m) (h .bits) (h .cut) ⌝ }
-    requires { ⌜ mark .at .0 ≤ places (textOf (now text) n) (patternOf (now pattern) m) ⌝ }
-    ensures { λ r. ⌜ Ran method (textOf (now (text .entry)) n) (patternOf (now (pattern .entry)) m) (mark .at .0) budget (now (list .entry)) (r .mark .at .0) (r .steps) (r .hits) (r .full) (now (list .exit)) ⌝ }
+    requires { ⌜ Ready method (textIn (now text) known) (patternIn (now pattern) (now fixed) known) (now cells) ⌝ }
+    requires { ⌜ HeadOf (patternIn (now pattern) (now fixed) known) (known .head) (known .mask) ⌝ }
+    requires { ⌜ mark .at .0 ≤ places (textIn (now text) known) (patternIn (now pattern) (now fixed) known) ⌝ }
+    ensures { λ r. ⌜ Ran method (textIn (now (text .entry)) known) (patternIn (now (pattern .entry)) (now (fixed .entry)) known) (mark .at .0) budget (now (list .entry)) (r .mark .at .0) (r .steps) (r .hits) (r .full) (now (list .exit)) ⌝ }
 {
-    let end = n - m + 1;
+    let end = known.n - known.m + 1;
     let from = mark.at;
     let mut at = from.0;
     let mut steps = 0u32;
     let mut hits = 0usize;
     while at < end && steps < budget {
-        let one = Mark { at: Place(at) }.step(method, text, n, pattern, m, h, cells, list, hits);
+        let one = Mark { at: Place(at) }.step(
+            method,
+            text,
+            pattern,
+            fixed,
+            known,
+            cells,
+            list,
+            hits,
+        );
         let moved = one.mark;
         hits = one.hits;
         if one.full {
@@ -59,10 +67,9 @@ pub fn run(
         let more = methods::advance(
             method,
             text,
-            n,
             pattern,
-            m,
-            h,
+            fixed,
+            known,
             cells,
             moved.at,
             budget - steps,
@@ -129,13 +136,14 @@ pub fn accepted(
     text: &[u8],
     n: u32,
     pattern: &[u8],
+    fixed: &[u8],
     m: u32,
     budget: u32,
     list: &mut [u32],
     scratch: &mut [u64],
 ) -> Answer
-    requires { ⌜ Allowed method (textOf (now text) n) (patternOf (now pattern) m) (mark .at .0) (now scratch) ⌝ }
-    ensures { λ r. ⌜ Leaves method (textOf (now (text .entry)) n) (patternOf (now (pattern .entry)) m) (mark .at .0) budget (now (list .entry)) (now (scratch .entry)) r (now (list .exit)) (now (scratch .exit)) ⌝ }
+    requires { ⌜ Allowed method (textOf (now text) n) (patternOf (now pattern) (now fixed) m) (mark .at .0) (now scratch) ⌝ }
+    ensures { λ r. ⌜ Leaves method (textOf (now (text .entry)) n) (patternOf (now (pattern .entry)) (now (fixed .entry)) m) (mark .at .0) budget (now (list .entry)) (now (scratch .entry)) r (now (list .exit)) (now (scratch .exit)) ⌝ }
 {
     if n < m {
         return Answer {
@@ -145,8 +153,18 @@ pub fn accepted(
             stop: Stop::Done,
         };
     }
-    methods::prepare(method, pattern, m, scratch);
-    let h = compare::head_of(pattern, m);
-    let left = run(mark, method, text, n, pattern, m, h, scratch, budget, list);
+    methods::prepare(method, pattern, fixed, m, scratch);
+    let known = compare::known_of(pattern, fixed, n, m);
+    let left = run(
+        mark,
+        method,
+        text,
+        pattern,
+        fixed,
+        known,
+        scratch,
+        budget,
+        list,
+    );
     answer(left, n - m + 1)
 }

@@ -1,4 +1,4 @@
-// Refusals 1 to 7 of a search call, in that order.
+// Refusals 1, 2, 3, 4, 17, 5, 6 and 7 of a search call, in that order.
 use crate::Method;
 use crate::Refusal;
 use bits::Place;
@@ -40,12 +40,13 @@ pub fn check(
     text: &[u8],
     n: u64,
     pattern: &[u8],
+    fixed: &[u8],
     m: u64,
     method: Method,
     mark: Place,
     scratch: &[u64],
 ) -> Checked
-    ensures { λ r. ⌜ checkOf r ≡ checkVerdict (textOf (now (text .entry)) n) (patternOf (now (pattern .entry)) m) method (mark .0) (now (scratch .entry)) ⌝ }
+    ensures { λ r. ⌜ checkOf r ≡ checkVerdict (textOf (now (text .entry)) n) (patternOf (now (pattern .entry)) (now (fixed .entry)) m) method (mark .0) (now (scratch .entry)) ⌝ }
 {
     if 1073741824 < n {
         return Checked::Refused(Refusal::TextTooLong);
@@ -61,6 +62,9 @@ pub fn check(
     }
     if (pattern.len() as u64) < bits::bytes_for(m) {
         return Checked::Refused(Refusal::PatternBytesMissing);
+    }
+    if (fixed.len() as u64) < bits::bytes_for(m) {
+        return Checked::Refused(Refusal::FixedBytesMissing);
     }
     if does_not_fit(method, m) {
         return Checked::Refused(Refusal::PatternUnfit);

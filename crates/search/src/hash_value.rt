@@ -11,9 +11,9 @@ pub enum HashAnswer {
     Refused(Refusal),
 }
 
-// H(B) of the first m bits of the pattern, with refusals 3, 4 and 5.
-pub fn hash_value(pattern: &[u8], m: u64, value: u8) -> HashAnswer
-    ensures { λ r. ⌜ hashAnswer r ≡ hashVerdict (patternOf (now (pattern .entry)) m) value ⌝ }
+// H(B) of the first m bits of the pattern, with refusals 3, 4, 17 and 5.
+pub fn hash_value(pattern: &[u8], fixed: &[u8], m: u64, value: u8) -> HashAnswer
+    ensures { λ r. ⌜ hashAnswer r ≡ hashVerdict (patternOf (now (pattern .entry)) (now (fixed .entry)) m) value ⌝ }
 {
     if m == 0 {
         return HashAnswer::Refused(Refusal::PatternLength);
@@ -24,8 +24,11 @@ pub fn hash_value(pattern: &[u8], m: u64, value: u8) -> HashAnswer
     if (pattern.len() as u64) < bits::bytes_for(m) {
         return HashAnswer::Refused(Refusal::PatternBytesMissing);
     }
+    if (fixed.len() as u64) < bits::bytes_for(m) {
+        return HashAnswer::Refused(Refusal::FixedBytesMissing);
+    }
     if m < 8 {
         return HashAnswer::Refused(Refusal::PatternUnfit);
     }
-    HashAnswer::Value(value::hash_of(pattern, m as u32, value))
+    HashAnswer::Value(value::hash_of(pattern, fixed, m as u32, value))
 }

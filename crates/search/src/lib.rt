@@ -7,14 +7,14 @@ pub mod scratch_cells;
 
 use bits::Place;
 use check::Checked;
-use matcher::compare::Head;
+use matcher::compare::Known;
 pub use rules::Method;
 ghost use mathlib.Core.Path.{_≡_};
 ghost use Prim.Native.Nat.{_≤_, _<_};
 ghost use lib.ListN.{length};
 ghost use Rattle.rules.specs.Occurrence.{places};
 ghost use Rattle.search.specs.Verdict.{numberOfRefusal, Searched};
-ghost use Rattle.matcher.specs.Progress.{textOf, patternOf, HeadOf, Ready, Stepped};
+ghost use Rattle.matcher.specs.Progress.{textOf, patternOf, textIn, patternIn, HeadOf, Ready, Stepped};
 
 // How far a search has come: the first place that is not yet decided.
 pub struct Mark {
@@ -42,6 +42,7 @@ pub enum Refusal {
     TextBytesMissing,
     PatternLength,
     PatternBytesMissing,
+    FixedBytesMissing,
     PatternUnfit,
     BeyondEnd,
     ScratchTooShort,
@@ -57,6 +58,7 @@ impl Refusal {
             Refusal::TextBytesMissing => 2,
             Refusal::PatternLength => 3,
             Refusal::PatternBytesMissing => 4,
+            Refusal::FixedBytesMissing => 17,
             Refusal::PatternUnfit => 5,
             Refusal::BeyondEnd => 6,
             Refusal::ScratchTooShort => 7,
@@ -87,22 +89,24 @@ impl Mark {
     }
 
     // Lists the places from the mark on where the pattern of m bits stands in the first n bits of the text, as far as the
-    // budget of steps and the cells of the list go. A refused call changes nothing.
+    // budget of steps and the cells of the list go. A bit of the pattern whose bit in the second run is 0 is wild: it agrees
+    // with both values. A refused call changes nothing.
     pub fn search(
         self,
         text: &[u8],
         n: u64,
         pattern: &[u8],
+        fixed: &[u8],
         m: u64,
         method: Method,
         budget: u32,
         list: &mut [u32],
         scratch: &mut [u64],
     ) -> Outcome
-        ensures { λ r. ⌜ Searched (record { text = textOf (now (text .entry)) n; pattern = patternOf (now (pattern .entry)) m; method = method; mark = self .at .0; budget = budget; list = now (list .entry); scratch = now (scratch .entry) }) r (now (list .exit)) (now (scratch .exit)) ⌝ }
+        ensures { λ r. ⌜ Searched (record { text = textOf (now (text .entry)) n; pattern = patternOf (now (pattern .entry)) (now (fixed .entry)) m; method = method; mark = self .at .0; budget = budget; list = now (list .entry); scratch = now (scratch .entry) }) r (now (list .exit)) (now (scratch .exit)) ⌝ }
     {
         let at = self.at;
-        let checked = check::check(text, n, pattern, m, method, at, scratch);
+        let checked = check::check(text, n, pattern, fixed, m, method, at, scratch);
         match checked {
             Checked::Refused(why) => Outcome::Refused(why),
             Checked::Passed => Outcome::Accepted(call::accepted(
@@ -111,6 +115,7 @@ impl Mark {
                 text,
                 n as u32,
                 pattern,
+                fixed,
                 m as u32,
                 budget,
                 list,
@@ -124,21 +129,20 @@ impl Mark {
         self,
         method: Method,
         text: &[u8],
-        n: u32,
         pattern: &[u8],
-        m: u32,
-        h: Head,
+        fixed: &[u8],
+        known: Known,
         cells: &[u64],
         list: &mut [u32],
         had: usize,
     ) -> Step
-        requires { ⌜ Ready method (textOf (now text) n) (patternOf (now pattern) m) (now cells) ⌝ }
-        requires { ⌜ HeadOf (patternOf (now pattern) m) (h .bits) (h .cut) ⌝ }
-        requires { ⌜ (self .at .0 < places (textOf (now text) n) (patternOf (now pattern) m)) × (had ≤ length (now list)) ⌝ }
-        ensures { λ r. ⌜ Stepped method (textOf (now (text .entry)) n) (patternOf (now (pattern .entry)) m) (self .at .0) (now (list .entry)) had (r .mark .at .0) (r .hits) (r .full) (now (list .exit)) ⌝ }
+        requires { ⌜ Ready method (textIn (now text) known) (patternIn (now pattern) (now fixed) known) (now cells) ⌝ }
+        requires { ⌜ HeadOf (patternIn (now pattern) (now fixed) known) (known .head) (known .mask) ⌝ }
+        requires { ⌜ (self .at .0 < places (textIn (now text) known) (patternIn (now pattern) (now fixed) known)) × (had ≤ length (now list)) ⌝ }
+        ensures { λ r. ⌜ Stepped method (textIn (now (text .entry)) known) (patternIn (now (pattern .entry)) (now (fixed .entry)) known) (self .at .0) (now (list .entry)) had (r .mark .at .0) (r .hits) (r .full) (now (list .exit)) ⌝ }
     {
         let s = self.at;
-        let found = methods::step(method, text, n, pattern, m, h, cells, s, list, had);
+        let found = methods::step(method, text, pattern, fixed, known, cells, s, list, had);
         let at = found.at;
         Step {
             mark: Mark { at: at },

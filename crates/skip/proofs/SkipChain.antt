@@ -1,29 +1,29 @@
 -- Laws of the chains of the skip method: what a head and a link say of the pattern's indices, and what a walk along a chain
 -- says of the places that contain the byte.
 -- Assumes nothing.
-use Prim.Native.Nat.{ℕ, zero, suc, _+_, _-_, _*_, _/_, _%_, _^_, _≤_, _<_}
+use Prim.Native.Nat.{ℕ, suc, _+_, _-_, _*_, _/_, _%_, _^_, _≤_, _<_, min, max}
 use mathlib.Core.Path.{_≡_, refl, sym, ap, ap₂, _∙_}
-use mathlib.Core.Logic.{inl, inr}
-use mathlib.Core.Bool.{Bool, true, false, cond}
+use mathlib.Core.Logic.{_↔_}
+use mathlib.Core.Bool.{Bool, true, false, true≢false}
 use mathlib.Core.List.{List, [], _∷_, _++_, append-nil}
-use native.Mathlib.Decide.{decLe}
 use native.Mathlib.Nat.{mul-comm}
 use native.Mathlib.Omega.{arith}
-use lib.Dec.{eqb, ltb}
+use lib.Bits.{bitAnd, bitXor}
+use lib.Dec.{ltb}
 use lib.ListN.{getD}
-use borrow.Author.Tests.{eqb-true, eqb-false, eq-eqb, ne-eqb}
-use Rattle.bits.specs.Packed.{Packed, bitsAt}
+use Rattle.bits.specs.Packed.{Packed, bitAt, bitsAt}
 use Rattle.bits.proofs.Loads.{byte-bits}
+use Rattle.bits.proofs.Run.{bits-lt, bit-of-bits}
 use Rattle.rules.specs.Ranges.{keep}
-use Rattle.rules.specs.Pattern.{Pattern}
+use Rattle.rules.specs.Pattern.{Pattern, agrees}
 use Rattle.rules.specs.Occurrence.{places, matches, occurs, occurrences}
-use Rattle.matcher.specs.Tables.{chained, lastShown, SkipTables}
-use Rattle.rules.proofs.Ranges.{and-right, not-true-false, eq-or-below}
-use Rattle.rules.proofs.Occurrence.{occurrences-append, occurrences-none, occurrences-one, occurrences-further, none-from-places}
-use Rattle.matcher.proofs.Chunks.{chunk-differs}
-
-clash : (b : Bool) → b ≡ true → b ≡ false → ⊥
-clash b p q = let z : _≡_ {A = ℕ} 0 1 = cc in omega arith
+use Rattle.matcher.specs.Tables.{lastBelow, showsByte, inChain, inWild, chained, SkipTables}
+use Rattle.skip.specs.SkipChains.{wildShows, lastShown, Walking}
+use Rattle.skip.specs.declared.Links.{Links}
+use Rattle.rules.proofs.Ranges.{and-right, not-true-false, to-every}
+use Rattle.rules.proofs.Occurrence.{matches-at, occurrences-append, occurrences-none, occurrences-one, occurrences-further, none-from-places}
+use Rattle.skip.proofs.SkipBelow.{below-zero, below-here, below-before, below-is, below-lower, below-again, below-part}
+use Rattle.skip.proofs.SkipShows.{shows-masked, chain-solid, chain-byte, wild-iff, wild-in, wild-shows, to-wild-shows, solid-not-wild, wild-not-solid, shown-either}
 
 -- how many indices are chained
 pub chained-is : (m : ℕ) → chained m ≡ (m + 1) / 8 * 8 - 8
@@ -67,110 +67,189 @@ pub mark-byte : (b m : ℕ) → chained m ≤ 8 * b → 15 ≤ m → (8 * b + 1 
 unfolding chained
 mark-byte b m low long = omega arith
 
-module _ (w : Pattern) (B : ℕ) where
-  -- the last index below k + 1 that shows B, by whether k does
-  pub shown-here : (k : ℕ) → bitsAt (w .bytes) k 8 ≡ B → lastShown w B (suc k) ≡ suc k
-  unfolding lastShown
-  shown-here k e = rw (eq-eqb _ _ e)
-
-  pub shown-before : (k : ℕ) → (bitsAt (w .bytes) k 8 ≡ B → ⊥) → lastShown w B (suc k) ≡ lastShown w B k
-  unfolding lastShown
-  shown-before k e = rw (ne-eqb _ _ e)
-
-  pub shown-zero : lastShown w B 0 ≡ 0
-  unfolding lastShown
-  shown-zero = refl
-
-  -- what `lastShown` gives
-  pub record Shown (k r : ℕ) : Type 0 where
-    pub within : r ≤ k
-    pub shows : (j : ℕ) → r ≡ suc j → bitsAt (w .bytes) j 8 ≡ B
-    pub none : (i : ℕ) → r ≤ i → i < k → bitsAt (w .bytes) i 8 ≡ B → ⊥
-
-  pub shown-is : (k : ℕ) → Shown k (lastShown w B k)
-  unfolding lastShown
-  shown-is zero = record { within = omega arith; shows = λ j e. absurd (omega arith); none = λ i l h e. omega arith }
-  shown-is (suc k) = go (eqb (bitsAt (w .bytes) k 8) B) refl (shown-is k)
-    where
-      go : (b : Bool) → eqb (bitsAt (w .bytes) k 8) B ≡ b → Shown k (lastShown w B k) → Shown (suc k) (cond b (suc k) (lastShown w B k))
-      go true e ih =
-          record {
-            within = omega arith;
-            shows = λ j q. let same : j ≡ k = omega arith in rw same (eqb-true _ _ e);
-            none = λ i l h q. omega arith;
-          }
-      go false e ih =
-          record {
-            within = omega arith;
-            shows = ih .shows;
-            none = λ i l h q. elim (eq-or-below {a = i} {b = k} (omega arith)) [
-              | inl same ↦ eqb-false _ _ e (rw same at q)
-              | inr less ↦ ih .none i l less q
-            ];
-          }
-
-  shown-eq : (k r : ℕ) → Shown k r → lastShown w B k ≡ r
-  shown-eq k r a = go (decLe r (lastShown w B k)) (decLe (lastShown w B k) r)
-    where
-      u : Shown k (lastShown w B k)
-      u = shown-is k
-
-      go : Dec (r ≤ lastShown w B k) → Dec (lastShown w B k ≤ r) → lastShown w B k ≡ r
-      go (yes p) (yes q) = omega arith
-      go (yes p) (no q) = absurd (a .none (lastShown w B k - 1) (omega arith) (omega (arith, u .within)) (u .shows (lastShown w B k - 1) (omega arith)))
-      go (no p) q = absurd (u .none (r - 1) (omega arith) (omega (arith, a .within)) (a .shows (r - 1) (omega arith)))
-
-  -- a lower bound that does not cut the head off
-  pub shown-lower : (k h : ℕ) → lastShown w B k ≤ h → h ≤ k → lastShown w B h ≡ lastShown w B k
-  shown-lower k h l g =
-      let u = shown-is k in
-      shown-eq h (lastShown w B k) (record { within = l; shows = u .shows; none = λ i a b. u .none i a (omega arith) })
-
-  -- a head is its own: nothing is above it
-  pub shown-again : (k r : ℕ) → r ≡ lastShown w B k → lastShown w B r ≡ r
-  shown-again k r e =
-      let u = shown-is k in
-      rw e (shown-lower k (lastShown w B k) (omega arith) (u .within))
-
--- a link read from the tables: the head of the chain below the index before
-pub link-at : (w : Pattern) (cells : List ℕ) → SkipTables w cells → (B k j : ℕ) → j ≡ lastShown w B k → k ≤ chained (w .count) → 0 < j
-    → getD cells (255 + j) 0 ≡ lastShown w B (j - 1)
-link-at w cells tables B k j e h g =
-    let u = shown-is w B k in
-    let before : 255 + j ≡ 256 + (j - 1) = omega arith in
-    let shows : bitsAt (w .bytes) (j - 1) 8 ≡ B = u .shows (j - 1) (omega arith) in
-    ap (λ (i : ℕ). getD cells i 0) before
-    ∙ tables .link-is (j - 1) (omega (arith, u .within))
-    ∙ ap (λ (v : ℕ). lastShown w v (j - 1)) shows
-
--- a walk from the head of B's chain has come to j, one more than the last index that shows B below some bound not below h
-pub record Headed (w : Pattern) (B h j : ℕ) : Type 0 where
+-- a walk from the head of a chain has come to j, one more than the last index below some bound that is not below h
+pub record Headed (f : ℕ → Bool) (top h j : ℕ) : Type 0 where
   pub bound : ℕ
-  pub chain : j ≡ lastShown w B bound
+  pub chain : j ≡ lastBelow f bound
   pub over : h ≤ bound
-  pub within : bound ≤ chained (w .count)
+  pub within : bound ≤ top
 
-module _ (w : Pattern) (cells : List ℕ) (tables : SkipTables w cells) (B h : ℕ) where
-  pub headed-first : B < 256 → h ≤ chained (w .count) → Headed w B h (getD cells B 0)
-  headed-first l fits =
-      record { bound = chained (w .count); chain = tables .head-is B l; over = omega arith; within = omega arith }
+module _ (f : ℕ → Bool) (top h : ℕ) where
+  pub headed-first : (j : ℕ) → j ≡ lastBelow f top → h ≤ top → Headed f top h j
+  headed-first j e fits = record { bound = top; chain = e; over = fits; within = omega arith }
 
-  module _ (j : ℕ) (k : Headed w B h j) where
-    pub headed-within : j ≤ chained (w .count)
-    headed-within = omega (arith, k .chain, k .within, shown-is w B (k .bound) .within)
+  module _ (j : ℕ) (k : Headed f top h j) where
+    pub headed-within : j ≤ top
+    headed-within = omega (arith, k .chain, k .within, below-is f (k .bound) .within)
 
-    pub headed-link : 0 < j → getD cells (255 + j) 0 ≡ lastShown w B (j - 1)
-    headed-link g = link-at w cells tables B (k .bound) j (k .chain) (k .within) g
+    -- index j - 1 is one of the chain
+    pub headed-passes : 0 < j → f (j - 1) ≡ true
+    headed-passes g = below-is f (k .bound) .passes (j - 1) (omega (arith, k .chain))
 
-    pub headed-less : 0 < j → getD cells (255 + j) 0 < j
-    headed-less g = omega (arith, headed-link g, shown-is w B (j - 1) .within)
+    -- i is the link after it
+    pub headed-more : h < j → (i : ℕ) → i ≡ lastBelow f (j - 1) → Headed f top h i
+    headed-more g i e = record { bound = j - 1; chain = e; over = omega arith; within = omega (arith, headed-within) }
 
-    pub headed-more : h < j → Headed w B h (getD cells (255 + j) 0)
-    headed-more g =
-        record { bound = j - 1; chain = headed-link (omega arith); over = omega arith; within = omega (arith, headed-within) }
+    pub headed-done : j ≤ h → j ≡ lastBelow f h
+    headed-done l = k .chain ∙ sym (below-lower f (k .bound) h (omega (arith, k .chain)) (k .over))
 
-    pub headed-done : j ≤ h → j ≡ lastShown w B h
-    headed-done l = k .chain ∙ sym (shown-lower w B (k .bound) h (omega (arith, k .chain)) (k .over))
+pub link-less : (f : ℕ → Bool) (j i : ℕ) → 0 < j → i ≡ lastBelow f (j - 1) → i < j
+link-less f j i g e = omega (arith, below-is f (j - 1) .within)
+
+-- the link i of the last index below k with a wild bit: from it on the last one that shows B is found
+pub record WildNext (w : Pattern) (B k i : ℕ) : Type 0 where
+  pub within : i ≤ k
+  pub link : lastBelow (inWild w) i ≡ i
+  pub same : lastBelow (wildShows w B) i ≡ lastBelow (wildShows w B) k
+
+pub wild-next : (w : Pattern) (B k i : ℕ) → i ≡ lastBelow (inWild w) k → WildNext w B k i
+wild-next w B k i e =
+    record {
+      within = omega (arith, below-is (inWild w) k .within);
+      link = below-again (inWild w) k i e;
+      same = rw e (below-part (wildShows w B) (inWild w) k (λ i l. wild-in w i B));
+    }
+
+-- links read from the tables
+module _ (w : Pattern) (cells : List ℕ) (tables : SkipTables w cells) where
+  module _ (j : ℕ) (some : 0 < j) (few : j ≤ chained (w .count)) where
+    before : 255 + j ≡ 256 + (j - 1)
+    before = omega arith
+
+    -- the link after index j - 1 in the chain of B
+    pub solid-link : (B : ℕ) → inChain w B (j - 1) ≡ true → getD cells (255 + j) 0 ≡ lastBelow (inChain w B) (j - 1)
+    solid-link B h =
+        ap (λ (i : ℕ). getD cells i 0) before
+        ∙ tables .link-is (j - 1) (omega arith) (chain-solid w (j - 1) B h)
+        ∙ ap (λ (v : ℕ). lastBelow (inChain w v) (j - 1)) (chain-byte w (j - 1) B h)
+
+    module _ (wild : inWild w (j - 1) ≡ true) (short : w .count ≤ 2048) where
+      cell : getD cells (255 + j) 0 ≡ lastBelow (inWild w) (j - 1) + 2 ^ 16 * bitsAt (w .bytes) (j - 1) 8 + 2 ^ 24 * bitsAt (w .fixed) (j - 1) 8
+      cell = ap (λ (i : ℕ). getD cells i 0) before ∙ tables .wild-link-is (j - 1) (omega arith) (wild-iff w (j - 1) .0 wild)
+
+      link-lt : lastBelow (inWild w) (j - 1) < 2 ^ 16
+      link-lt = omega (arith, below-is (inWild w) (j - 1) .within, chained-le (w .count))
+
+      byte-lt : bitsAt (w .bytes) (j - 1) 8 < 256
+      byte-lt = bits-lt (w .bytes) (j - 1) 8
+
+      -- the link after index j - 1 in the chain of the indices with a wild bit, its eight bits, and which of them are fixed
+      pub wild-link : getD cells (255 + j) 0 % 65536 ≡ lastBelow (inWild w) (j - 1)
+      wild-link = omega (arith, cell, link-lt)
+
+      pub wild-byte : getD cells (255 + j) 0 / 2 ^ 16 % 2 ^ 8 ≡ bitsAt (w .bytes) (j - 1) 8
+      wild-byte = omega (arith, cell, link-lt, byte-lt)
+
+      pub wild-fixed : getD cells (255 + j) 0 / 2 ^ 24 ≡ bitsAt (w .fixed) (j - 1) 8
+      wild-fixed = omega (arith, cell, link-lt, byte-lt)
+
+      -- the code's test of it
+      pub wild-test : (B : ℕ) → (bitAnd (bitXor (getD cells (255 + j) 0 / 2 ^ 16) B) (getD cells (255 + j) 0 / 2 ^ 24) ≡ 0) ↔ (showsByte w B (j - 1) ≡ true)
+      wild-test B = rw wild-fixed (shows-masked w (j - 1) B _ wild-byte)
+
+  -- a link k of the chain of the indices with a wild bit: its index shows B, or the link after it is tried
+  module _ (B k : ℕ) (some : 0 < k) (few : k ≤ chained (w .count)) (own : lastBelow (inWild w) k ≡ k) (short : w .count ≤ 2048) where
+    last : suc (k - 1) ≡ k
+    last = omega arith
+
+    in-wild : inWild w (k - 1) ≡ true
+    in-wild = below-is (inWild w) k .passes (k - 1) (omega (arith, own))
+
+    pub tried-shows : bitAnd (bitXor (getD cells (255 + k) 0 / 2 ^ 16) B) (getD cells (255 + k) 0 / 2 ^ 24) ≡ 0 → k ≡ lastBelow (wildShows w B) k
+    tried-shows z =
+        let shows = to-wild-shows w (k - 1) B (wild-iff w (k - 1) .0 in-wild) (wild-test k some few in-wild short B .0 z) in
+        sym (rw last at (below-here (wildShows w B) (k - 1) shows))
+
+    pub tried-not : (bitAnd (bitXor (getD cells (255 + k) 0 / 2 ^ 16) B) (getD cells (255 + k) 0 / 2 ^ 24) ≡ 0 → ⊥)
+        → lastBelow (wildShows w B) (k - 1) ≡ lastBelow (wildShows w B) k
+    tried-not z =
+        let none = not-true-false _ (λ h. z (wild-test k some few in-wild short B .1 (wild-shows w (k - 1) B h))) in
+        sym (rw last at (below-before (wildShows w B) (k - 1) none))
+
+    pub tried-next : WildNext w B (k - 1) (getD cells (255 + k) 0 % 65536)
+    tried-next = wild-next w B (k - 1) _ (wild-link k some few in-wild short)
+
+  -- no index has a wild bit: the chain of B is all that shows it
+  pub none-wild : (B k : ℕ) → B < 256 → getD cells (255 + w .count) 0 ≡ 0 → k ≤ chained (w .count) → lastShown w B k ≡ lastBelow (inChain w B) k
+  none-wild B k byte e few =
+      let none : lastBelow (inWild w) (chained (w .count)) ≡ 0 = sym (tables .wild-head-is) ∙ e in
+      let here : lastBelow (inWild w) k ≡ 0 = none-below (inWild w) (chained (w .count)) k none few in
+      let wild : lastBelow (wildShows w B) k ≡ 0 =
+      sym (below-part (wildShows w B) (inWild w) k (λ i l. wild-in w i B)) ∙ ap (lastBelow (wildShows w B)) here ∙ below-zero (wildShows w B) in
+      shown-either w B k byte ∙ ap (max (lastBelow (inChain w B) k)) wild ∙ nothing (lastBelow (inChain w B) k)
+    where
+      none-below : (f : ℕ → Bool) (c k : ℕ) → lastBelow f c ≡ 0 → k ≤ c → lastBelow f k ≡ 0
+      none-below f c k e l = below-lower f c k (omega arith) l ∙ e
+
+      nothing : (x : ℕ) → max x 0 ≡ x
+      nothing x = omega arith
+
+-- Both chains walked in step.
+module _ (w : Pattern) (B : ℕ) (byte : B < 256) where
+  -- the links of both chains below a bound k among the chained: the greater one is first
+  pub record Linked (k : ℕ) (l : Links) : Type 0 where
+    pub shown : l .first ≡ lastShown w B k
+    pub within : l .first ≤ k
+    pub walking : Walking w B l
+
+  pub linked : (k : ℕ) (l : Links) → l .first ≡ max (l .solid) (l .wild) → l .solid ≡ lastBelow (inChain w B) k
+      → l .wild ≡ lastBelow (wildShows w B) k → k ≤ chained (w .count) → Linked k l
+  linked k l first s x few =
+      record {
+        shown = shown;
+        within = within;
+        walking = record {
+          solid-is = s ∙ sym (lower (inChain w B) (l .solid) s (omega arith));
+          wild-is = x ∙ sym (lower (wildShows w B) (l .wild) x (omega arith));
+          first-is = λ h. first;
+        };
+      }
+    where
+      shown : l .first ≡ lastShown w B k
+      shown = first ∙ ap₂ max s x ∙ sym (shown-either w B k byte)
+
+      within : l .first ≤ k
+      within = omega (arith, shown, below-is (showsByte w B) k .within)
+
+      lower : (f : ℕ → Bool) (r : ℕ) → r ≡ lastBelow f k → r ≤ l .first → lastBelow f (min (l .first) (chained (w .count))) ≡ lastBelow f k
+      lower f r e h = below-lower f k (min (l .first) (chained (w .count))) (omega (arith, within)) (omega (arith, within))
+
+  module _ (l : Links) (u : Walking w B l) where
+    -- the first link is not of a chained index
+    pub walking-down : chained (w .count) + 1 < l .first → (r : Links) → r .first ≡ l .first - 1 → r .solid ≡ l .solid → r .wild ≡ l .wild → Walking w B r
+    walking-down h r first s x =
+        let here : min (r .first) (chained (w .count)) ≡ min (l .first) (chained (w .count)) = omega arith in
+        record { solid-is = s ∙ u .solid-is ∙ ap (lastBelow (inChain w B)) (sym here); wild-is = x ∙ u .wild-is ∙ ap (lastBelow (wildShows w B)) (sym here); first-is = λ g. absurd (omega arith) }
+
+    pub walking-heads : l .first ≡ chained (w .count) + 1 → (r : Links) → r .first ≡ max (l .solid) (l .wild) → r .solid ≡ l .solid → r .wild ≡ l .wild
+        → Linked (l .first - 1) r
+    walking-heads h r first s x =
+        let here : min (l .first) (chained (w .count)) ≡ l .first - 1 = omega arith in
+        linked (l .first - 1) r (first ∙ ap₂ max (sym s) (sym x)) (s ∙ rw here at (u .solid-is)) (x ∙ rw here at (u .wild-is)) (omega arith)
+
+    module _ (few : l .first ≤ chained (w .count)) (some : 0 < l .first) where
+      here : min (l .first) (chained (w .count)) ≡ suc (l .first - 1)
+      here = omega arith
+
+      -- the first link is of an index with a wild bit, or of one without
+      pub wild-first : l .solid < l .wild → (l .wild ≡ l .first) × (wildShows w B (l .first - 1) ≡ true)
+      wild-first h =
+          let e : l .wild ≡ l .first = omega (arith, u .first-is few) in
+          (e, below-is (wildShows w B) (suc (l .first - 1)) .passes (l .first - 1) (omega (arith, rw here at (u .wild-is))))
+
+      pub solid-first : l .wild ≤ l .solid → (l .solid ≡ l .first) × (inChain w B (l .first - 1) ≡ true)
+      solid-first h =
+          let e : l .solid ≡ l .first = omega (arith, u .first-is few) in
+          (e, below-is (inChain w B) (suc (l .first - 1)) .passes (l .first - 1) (omega (arith, rw here at (u .solid-is))))
+
+      -- the other chain's link stays
+      pub solid-stays : wildShows w B (l .first - 1) ≡ true → l .solid ≡ lastBelow (inChain w B) (l .first - 1)
+      solid-stays h =
+          rw here at (u .solid-is) ∙ below-before (inChain w B) (l .first - 1) (wild-not-solid w (l .first - 1) B (wild-iff w (l .first - 1) .0 (wild-in w (l .first - 1) B h)))
+
+      pub wild-stays : inChain w B (l .first - 1) ≡ true → l .wild ≡ lastBelow (wildShows w B) (l .first - 1)
+      wild-stays h =
+          rw here at (u .wild-is) ∙ below-before (wildShows w B) (l .first - 1) (solid-not-wild w (l .first - 1) B (chain-solid w (l .first - 1) B h))
 
 -- a byte as its eight bits
 pub byte-is : (bytes : List ℕ) (b : ℕ) → getD bytes b 0 < 256 → getD bytes b 0 ≡ bitsAt bytes (8 * b) 8
@@ -178,7 +257,7 @@ byte-is bytes b h = sym (byte-bits bytes b h) ∙ ap (λ (p : ℕ). bitsAt bytes
 
 pub not-matching : (t : Packed) (w : Pattern) (q : ℕ) → matches t w q ≡ false → occurs t w q ≡ false
 unfolding occurs
-not-matching t w q e = not-true-false _ (λ h. clash _ (and-right (ltb q (places t w)) (matches t w q) h) e)
+not-matching t w q e = not-true-false _ (λ h. true≢false (sym (and-right (ltb q (places t w)) (matches t w q) h) ∙ e))
 
 module _ (t : Packed) (w : Pattern) (b : ℕ) where
   -- byte b of the text
@@ -186,19 +265,25 @@ module _ (t : Packed) (w : Pattern) (b : ℕ) where
   byteOf = bitsAt (t .bytes) (8 * b) 8
 
   -- a place that contains byte b, where the pattern does not show it, is no occurrence
-  pub not-shown : (a : ℕ) → a ≤ 8 * b → 8 * b + 8 ≤ a + w .count → (bitsAt (w .bytes) (8 * b - a) 8 ≡ byteOf → ⊥) → occurs t w a ≡ false
-  not-shown a l h ne =
-      let there : a + (8 * b - a) ≡ 8 * b = omega arith in
-      not-matching t w a (chunk-differs t w a (8 * b - a) 8 (omega arith) (λ e. ne (sym (rw there at e))))
+  occurrence-shows : (a : ℕ) → a ≤ 8 * b → 8 * b + 8 ≤ a + w .count → matches t w a ≡ true → showsByte w byteOf (8 * b - a) ≡ true
+  unfolding showsByte
+  occurrence-shows a l h e =
+      to-every 8 _ (λ j u.
+      let there : a + (8 * b - a + j) ≡ 8 * b + j = omega arith in
+      let same : agrees w (8 * b - a + j) (bitAt (t .bytes) (a + (8 * b - a + j))) ≡ true = matches-at t w a e (8 * b - a + j) (omega arith) in
+      ap (agrees w (8 * b - a + j)) (bit-of-bits (t .bytes) (8 * b) u) ∙ rw there at same)
+
+  pub no-occurrence : (a : ℕ) → a ≤ 8 * b → 8 * b + 8 ≤ a + w .count → showsByte w byteOf (8 * b - a) ≡ false → occurs t w a ≡ false
+  no-occurrence a l h none = not-matching t w a (not-true-false _ (λ e. true≢false (sym (occurrence-shows a l h e) ∙ none)))
 
   -- between the place of index k - 1 and that of a link i there is no occurrence, where the last index that shows the byte
   -- is not from the link on
   pub chain-gap : (k i : ℕ) → lastShown w byteOf k ≤ i → k ≤ 8 * b + 1 → k + 7 ≤ w .count
       → occurrences t w (8 * b + 1 - k) (8 * b + 1 - i) ≡ []
   chain-gap k i e l h =
-      let u = shown-is w byteOf k in
+      let u = below-is (showsByte w byteOf) k in
       occurrences-none t w (8 * b + 1 - k) (8 * b + 1 - i)
-      (λ q g z. not-shown q (omega arith) (omega arith) (u .none (8 * b - q) (omega arith) (omega arith)))
+      (λ q g z. no-occurrence q (omega arith) (omega arith) (u .none (8 * b - q) (omega arith) (omega arith)))
 
   module _ (p j : ℕ) (fits : 8 * b + 8 ≤ p + w .count) (low : j + p ≤ 8 * b + 1) where
     -- a walk over the places from p on begins with the link j: no occurrence is passed over

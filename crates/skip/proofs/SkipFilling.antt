@@ -1,9 +1,9 @@
 -- Laws of filling the chains of the skip method: all heads empty, and one index more.
 -- Assumes nothing.
-use Prim.Native.Nat.{ℕ, suc, _+_, _≤_, _<_}
+use Prim.Native.Nat.{ℕ, _+_, _*_, _^_, _≤_, _<_}
 use mathlib.Core.Path.{_≡_, refl, sym, ap, _∙_}
 use mathlib.Core.Logic.{_⊎_, inl, inr}
-use mathlib.Core.Bool.{Bool, true, false}
+use mathlib.Core.Bool.{Bool, true, false, true≢false}
 use mathlib.Core.List.{List, _++_}
 use native.Mathlib.Numerals.{add-one}
 use native.Mathlib.Omega.{arith}
@@ -15,10 +15,11 @@ use Rattle.bits.specs.Packed.{bitsAt}
 use Rattle.bits.proofs.Run.{bits-lt}
 use Rattle.rules.specs.declared.Method.the-variants.{Skip}
 use Rattle.rules.specs.Pattern.{Pattern}
-use Rattle.matcher.specs.Tables.{chained, lastShown, Prepared}
+use Rattle.matcher.specs.Tables.{lastBelow, solid, inChain, inWild, chained, Prepared}
 use Rattle.skip.specs.SkipChains.{Filled}
-use Rattle.rules.proofs.Ranges.{eq-or-below}
-use Rattle.skip.proofs.SkipChain.{shown-zero, shown-here, shown-before}
+use Rattle.rules.proofs.Ranges.{not-true-false, eq-or-below}
+use Rattle.skip.proofs.SkipBelow.{below-zero, below-here, below-before}
+use Rattle.skip.proofs.SkipShows.{chain-byte, to-chain, wild-iff, wild-not-solid}
 
 -- n cells set to 0
 module _ (n : ℕ) (before cells : List ℕ) (e : cells ≡ replicate n 0 ++ drop n before) where
@@ -39,86 +40,181 @@ module _ (n : ℕ) (before cells : List ℕ) (e : cells ≡ replicate n 0 ++ dro
       ∙ drop-drop m n before
 
 -- no index is entered
-pub filled-none : (w : Pattern) (before cells : List ℕ) → cells ≡ replicate 256 0 ++ drop 256 before → Filled w cells 0 cells
-filled-none w before cells e =
-    record {
-      heads = λ B l. zeros 256 before cells e B l ∙ sym (shown-zero w B);
-      links = λ j l. absurd (omega arith);
-      size = refl;
-      rest = refl;
-    }
+module _ (w : Pattern) (before cleared cells : List ℕ) (c : cleared ≡ replicate 256 0 ++ drop 256 before) (e : cells ≡ set cleared (255 + w .count) 0)
+    (some : 0 < w .count) (room : 256 + w .count ≤ length before) where
+  pub empty-size : length cells ≡ length before
+  empty-size = rw e (length-set cleared (255 + w .count) 0 ∙ same-size 256 before cleared c (omega arith))
 
--- one index more, at the head of its chain
-pub filled-more : (w : Pattern) (before cells : List ℕ) (k v : ℕ) → Filled w before k cells → v ≡ bitsAt (w .bytes) k 8 → k < w .count
-    → 256 + w .count ≤ length before → Filled w before (k + 1) (set (set cells (256 + k) (getD cells v 0)) v (k + 1))
-filled-more w before cells k v f ev h room =
-    record { heads = heads; links = links; size = simp length-set (f .size); rest = rest }
-  where
-    next : List ℕ
-    next = set (set cells (256 + k) (getD cells v 0)) v (k + 1)
+  pub empty-rest : drop (256 + w .count) cells ≡ drop (256 + w .count) before
+  empty-rest = rw e (drop-set-lt (256 + w .count) cleared (255 + w .count) 0 (omega arith) ∙ same-rest 256 before cleared c (w .count))
 
-    small : v < 256
-    small = omega (arith, bits-lt (w .bytes) k 8)
+  pub filled-none : Filled w cells 0 cells
+  filled-none =
+      record {
+        heads = λ B l. rw e (getD-set-other cleared (255 + w .count) B 0 0 (λ q. omega arith) ∙ zeros 256 before cleared c B l ∙ sym (below-zero (inChain w B)));
+        links = λ j l. absurd (omega arith);
+        wild-head = rw e (getD-set-same cleared (255 + w .count) 0 0 (omega (arith, same-size 256 before cleared c (omega arith))) ∙ sym (below-zero (inWild w)));
+        wild-links = λ j l. absurd (omega arith);
+        size = refl;
+        rest = refl;
+      }
 
-    first-size : length (set cells (256 + k) (getD cells v 0)) ≡ length before
-    first-size = length-set cells (256 + k) (getD cells v 0) ∙ f .size
+-- one index more, with x in its cell, at the head h of its chain
+module _ (w : Pattern) (before cells : List ℕ) (k : ℕ) (f : Filled w before k cells) (few : k + 1 < w .count) (room : 256 + w .count ≤ length before) where
+  abbrev next : ℕ → ℕ → List ℕ
+  next x h = set (set cells (256 + k) x) h (k + 1)
 
-    at-head : getD next v 0 ≡ k + 1
-    at-head = getD-set-same (set cells (256 + k) (getD cells v 0)) v (k + 1) 0 (omega (arith, first-size, small))
+  module _ (x h : ℕ) (inside : h < 256 + w .count) (apart : h ≡ 256 + k → ⊥) where
+    first-size : length (set cells (256 + k) x) ≡ length before
+    first-size = length-set cells (256 + k) x ∙ f .size
 
-    off-head : (i : ℕ) → (i ≡ v → ⊥) → getD next i 0 ≡ getD (set cells (256 + k) (getD cells v 0)) i 0
-    off-head i ne = getD-set-other (set cells (256 + k) (getD cells v 0)) v i (k + 1) 0 ne
+    at-head : getD (next x h) h 0 ≡ k + 1
+    at-head = getD-set-same (set cells (256 + k) x) h (k + 1) 0 (omega (arith, first-size))
 
-    off-link : (i : ℕ) → (i ≡ 256 + k → ⊥) → getD (set cells (256 + k) (getD cells v 0)) i 0 ≡ getD cells i 0
-    off-link i ne = getD-set-other cells (256 + k) i (getD cells v 0) 0 ne
+    at-link : getD (next x h) (256 + k) 0 ≡ x
+    at-link = getD-set-other (set cells (256 + k) x) h (256 + k) (k + 1) 0 (λ q. apart (sym q)) ∙ getD-set-same cells (256 + k) x 0 (omega (arith, f .size))
 
-    heads : (B : ℕ) → B < 256 → getD next B 0 ≡ lastShown w B (k + 1)
-    heads B l = go (eqb B v) refl ∙ ap (lastShown w B) (sym (add-one k))
-      where
-        go : (same : Bool) → eqb B v ≡ same → getD next B 0 ≡ lastShown w B (suc k)
-        go true q =
-            let e = eqb-true B v q in
-            ap (λ (i : ℕ). getD next i 0) e ∙ at-head ∙ add-one k ∙ sym (shown-here w B k (sym (e ∙ ev)))
-        go false q =
-            let ne = eqb-false B v q in
-            off-head B ne
-            ∙ off-link B (λ e. omega arith)
-            ∙ f .heads B l
-            ∙ sym (shown-before w B k (λ e. ne (sym (ev ∙ e))))
+    elsewhere : (i : ℕ) → (i ≡ h → ⊥) → (i ≡ 256 + k → ⊥) → getD (next x h) i 0 ≡ getD cells i 0
+    elsewhere i ne nk = getD-set-other (set cells (256 + k) x) h i (k + 1) 0 ne ∙ getD-set-other cells (256 + k) i x 0 nk
 
-    links : (j : ℕ) → j < k + 1 → getD next (256 + j) 0 ≡ lastShown w (bitsAt (w .bytes) j 8) j
-    links j l = off-head (256 + j) (λ e. omega (arith, small)) ∙ go (eq-or-below {a = j} {b = k} (omega arith))
-      where
-        go : (j ≡ k) ⊎ (j < k) → getD (set cells (256 + k) (getD cells v 0)) (256 + j) 0 ≡ lastShown w (bitsAt (w .bytes) j 8) j
-        go (inl e) =
-            rw e
-            (getD-set-same cells (256 + k) (getD cells v 0) 0 (omega (arith, f .size))
-            ∙ f .heads v small
-            ∙ ap (λ (u : ℕ). lastShown w u k) ev)
-        go (inr less) = off-link (256 + j) (λ e. omega arith) ∙ f .links j less
+    next-size : length (next x h) ≡ length before
+    next-size = length-set (set cells (256 + k) x) h (k + 1) ∙ first-size
 
-    rest : drop (256 + w .count) next ≡ drop (256 + w .count) before
-    rest =
-        drop-set-lt (256 + w .count) (set cells (256 + k) (getD cells v 0)) v (k + 1) (omega (arith, small))
-        ∙ drop-set-lt (256 + w .count) cells (256 + k) (getD cells v 0) (omega arith)
+    next-rest : drop (256 + w .count) (next x h) ≡ drop (256 + w .count) before
+    next-rest =
+        drop-set-lt (256 + w .count) (set cells (256 + k) x) h (k + 1) inside
+        ∙ drop-set-lt (256 + w .count) cells (256 + k) x (omega arith)
         ∙ f .rest
+
+  -- below k + 1 as below k, where k does not pass, and else k + 1
+  one-more : (g : ℕ → Bool) → g k ≡ false → lastBelow g k ≡ lastBelow g (k + 1)
+  one-more g e = sym (below-before g k e) ∙ ap (lastBelow g) (sym (add-one k))
+
+  itself : (g : ℕ → Bool) → g k ≡ true → k + 1 ≡ lastBelow g (k + 1)
+  itself g e = add-one k ∙ sym (below-here g k e) ∙ ap (lastBelow g) (sym (add-one k))
+
+  -- its bits are fixed: its chain is that of its byte v
+  pub filled-solid : (v : ℕ) → v ≡ bitsAt (w .bytes) k 8 → solid w k ≡ true → Filled w before (k + 1) (set (set cells (256 + k) (getD cells v 0)) v (k + 1))
+  filled-solid v ev all =
+      record { heads = heads; links = links; wild-head = wild-head; wild-links = wild-links; size = next-size x v inside apart; rest = next-rest x v inside apart }
+    where
+      x : ℕ
+      x = getD cells v 0
+
+      small : v < 256
+      small = omega (arith, bits-lt (w .bytes) k 8)
+
+      inside : v < 256 + w .count
+      inside = omega (arith, small)
+
+      apart : v ≡ 256 + k → ⊥
+      apart q = omega (arith, small)
+
+      not-here : (j : ℕ) → solid w j ≡ false → j ≡ k → ⊥
+      not-here j e q = true≢false (sym all ∙ ap (solid w) (sym q) ∙ e)
+
+      heads : (B : ℕ) → B < 256 → getD (next x v) B 0 ≡ lastBelow (inChain w B) (k + 1)
+      heads B l = go (eqb B v) refl
+        where
+          go : (same : Bool) → eqb B v ≡ same → getD (next x v) B 0 ≡ lastBelow (inChain w B) (k + 1)
+          go true q =
+              let e = eqb-true B v q in
+              ap (λ (i : ℕ). getD (next x v) i 0) e ∙ at-head x v inside apart ∙ itself (inChain w B) (to-chain w k B all (sym (e ∙ ev)))
+          go false q =
+              let ne = eqb-false B v q in
+              elsewhere x v inside apart B ne (λ e. omega arith)
+              ∙ f .heads B l
+              ∙ one-more (inChain w B) (not-true-false _ (λ e. ne (sym (ev ∙ chain-byte w k B e))))
+
+      links : (j : ℕ) → j < k + 1 → solid w j ≡ true → getD (next x v) (256 + j) 0 ≡ lastBelow (inChain w (bitsAt (w .bytes) j 8)) j
+      links j l e = go (eq-or-below {a = j} {b = k} (omega arith))
+        where
+          go : (j ≡ k) ⊎ (j < k) → getD (next x v) (256 + j) 0 ≡ lastBelow (inChain w (bitsAt (w .bytes) j 8)) j
+          go (inl q) = rw q (at-link x v inside apart ∙ f .heads v small ∙ ap (λ (u : ℕ). lastBelow (inChain w u) k) ev)
+          go (inr less) = elsewhere x v inside apart (256 + j) (λ q. omega (arith, small)) (λ q. omega arith) ∙ f .links j less e
+
+      wild-head : getD (next x v) (255 + w .count) 0 ≡ lastBelow (inWild w) (k + 1)
+      wild-head =
+          elsewhere x v inside apart (255 + w .count) (λ q. omega (arith, small)) (λ q. omega arith)
+          ∙ f .wild-head
+          ∙ one-more (inWild w) (not-true-false _ (λ e. not-here k (wild-iff w k .0 e) refl))
+
+      wild-links : (j : ℕ) → j < k + 1 → solid w j ≡ false
+          → getD (next x v) (256 + j) 0 ≡ lastBelow (inWild w) j + 2 ^ 16 * bitsAt (w .bytes) j 8 + 2 ^ 24 * bitsAt (w .fixed) j 8
+      wild-links j l e =
+          elsewhere x v inside apart (256 + j) (λ q. omega (arith, small)) (λ q. not-here j e (omega arith))
+          ∙ f .wild-links j (below (eq-or-below {a = j} {b = k} (omega arith))) e
+        where
+          below : (j ≡ k) ⊎ (j < k) → j < k
+          below (inl q) = absurd (not-here j e q)
+          below (inr less) = less
+
+  -- one of them is wild: its chain is that of such indices
+  pub filled-wild : (x : ℕ) → x ≡ getD cells (255 + w .count) 0 + 2 ^ 16 * bitsAt (w .bytes) k 8 + 2 ^ 24 * bitsAt (w .fixed) k 8 → solid w k ≡ false
+      → Filled w before (k + 1) (set (set cells (256 + k) x) (255 + w .count) (k + 1))
+  filled-wild x ex wild =
+      record { heads = heads; links = links; wild-head = wild-head; wild-links = wild-links; size = next-size x end inside apart; rest = next-rest x end inside apart }
+    where
+      end : ℕ
+      end = 255 + w .count
+
+      inside : end < 256 + w .count
+      inside = omega arith
+
+      apart : end ≡ 256 + k → ⊥
+      apart q = omega arith
+
+      not-here : (j : ℕ) → solid w j ≡ true → j ≡ k → ⊥
+      not-here j e q = true≢false (sym e ∙ ap (solid w) q ∙ wild)
+
+      heads : (B : ℕ) → B < 256 → getD (next x end) B 0 ≡ lastBelow (inChain w B) (k + 1)
+      heads B l =
+          elsewhere x end inside apart B (λ q. omega arith) (λ q. omega arith)
+          ∙ f .heads B l
+          ∙ one-more (inChain w B) (wild-not-solid w k B wild)
+
+      links : (j : ℕ) → j < k + 1 → solid w j ≡ true → getD (next x end) (256 + j) 0 ≡ lastBelow (inChain w (bitsAt (w .bytes) j 8)) j
+      links j l e =
+          elsewhere x end inside apart (256 + j) (λ q. omega arith) (λ q. not-here j e (omega arith))
+          ∙ f .links j (below (eq-or-below {a = j} {b = k} (omega arith))) e
+        where
+          below : (j ≡ k) ⊎ (j < k) → j < k
+          below (inl q) = absurd (not-here j e q)
+          below (inr less) = less
+
+      wild-head : getD (next x end) (255 + w .count) 0 ≡ lastBelow (inWild w) (k + 1)
+      wild-head = at-head x end inside apart ∙ itself (inWild w) (wild-iff w k .1 wild)
+
+      wild-links : (j : ℕ) → j < k + 1 → solid w j ≡ false
+          → getD (next x end) (256 + j) 0 ≡ lastBelow (inWild w) j + 2 ^ 16 * bitsAt (w .bytes) j 8 + 2 ^ 24 * bitsAt (w .fixed) j 8
+      wild-links j l e = go (eq-or-below {a = j} {b = k} (omega arith))
+        where
+          go : (j ≡ k) ⊎ (j < k) → getD (next x end) (256 + j) 0 ≡ lastBelow (inWild w) j + 2 ^ 16 * bitsAt (w .bytes) j 8 + 2 ^ 24 * bitsAt (w .fixed) j 8
+          go (inl q) = rw q (at-link x end inside apart ∙ ex ∙ ap (λ (y : ℕ). y + 2 ^ 16 * bitsAt (w .bytes) k 8 + 2 ^ 24 * bitsAt (w .fixed) k 8) (f .wild-head))
+          go (inr less) = elsewhere x end inside apart (256 + j) (λ q. omega arith) (λ q. omega arith) ∙ f .wild-links j less e
 
 -- the same, told of the cells as they now are
 pub filled-here : {w : Pattern} {before : List ℕ} {k : ℕ} {cells : List ℕ} → Filled w before k cells → Filled w cells k cells
-filled-here f = record { heads = f .heads; links = f .links; size = refl; rest = refl }
+filled-here f =
+    record { heads = f .heads; links = f .links; wild-head = f .wild-head; wild-links = f .wild-links; size = refl; rest = refl }
 
 -- more indices entered after some
 pub filled-then : {w : Pattern} {before : List ℕ} {k : ℕ} {cells : List ℕ} {k' : ℕ} {cells' : List ℕ} → Filled w before k cells → Filled w cells k' cells'
     → Filled w before k' cells'
 filled-then f g =
-    record { heads = g .heads; links = g .links; size = g .size ∙ f .size; rest = g .rest ∙ f .rest }
+    record { heads = g .heads; links = g .links; wild-head = g .wild-head; wild-links = g .wild-links; size = g .size ∙ f .size; rest = g .rest ∙ f .rest }
 
 -- all indices are entered, from empty chains on
-pub filled-all : (w : Pattern) (before cleared cells : List ℕ) (k : ℕ) → cleared ≡ replicate 256 0 ++ drop 256 before → 256 ≤ length before
-    → Filled w cleared k cells → k ≡ chained (w .count) → Prepared Skip w before cells
-filled-all w before cleared cells k c h f e =
+pub filled-all : (w : Pattern) (before empty cells : List ℕ) (k : ℕ) → length empty ≡ length before → drop (256 + w .count) empty ≡ drop (256 + w .count) before
+    → Filled w empty k cells → k ≡ chained (w .count) → Prepared Skip w before cells
+filled-all w before empty cells k size rest f e =
     record {
-      tables = record { head-is = λ B l. f .heads B l ∙ ap (lastShown w B) e; link-is = λ j l. f .links j (omega arith) };
-      size = f .size ∙ same-size 256 before cleared c h;
-      rest = f .rest ∙ same-rest 256 before cleared c (w .count);
+      tables = record {
+        head-is = λ B l. f .heads B l ∙ ap (lastBelow (inChain w B)) e;
+        link-is = λ j l. f .links j (omega arith);
+        wild-head-is = f .wild-head ∙ ap (lastBelow (inWild w)) e;
+        wild-link-is = λ j l. f .wild-links j (omega arith);
+      };
+      size = f .size ∙ size;
+      rest = f .rest ∙ rest;
     }

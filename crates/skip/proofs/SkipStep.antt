@@ -67,34 +67,30 @@ module _ (t : Packed) (w : Pattern) where
         rw (there ∙ sym (skip-next-is s long))
         (stepped-whole Skip t w s before had list hits (rw (skip-finds-are s long ∙ sym e) u))
 
+  -- a mark 8 a + 1, from its last byte b
+  pub mark-from : (at b : ℕ) → 15 ≤ w .count → at % 8 ≡ 1 → b ≡ lastByte w at → 8 * b + 1 - chained (w .count) ≡ at
+  mark-from at b long odd last = omega (arith, chained-span at (w .count) odd long, reaches-byte w at long)
+
   -- A turn of many steps: a step more from a mark 8 a + 1 below E, by its last byte b.
   module _ (s budget : ℕ) (before : List ℕ) (had at steps hits : ℕ) (list : List ℕ) (room : had ≤ length before)
       (made : Advanced Skip t w s budget before had (min at (places t w)) steps hits false list)
-      (inside : at < places t w) (few : steps < budget) (long : 15 ≤ w .count) (b : ℕ) (odd : at % 8 ≡ 1) (last : b ≡ lastByte w at) where
+      (inside : at < places t w) (few : steps < budget) (long : 15 ≤ w .count) (b : ℕ) (last : b ≡ lastByte w at) where
     here : min at (places t w) ≡ at
     here = omega arith
-
-    span : 8 * lastByte w at + 1 - at ≡ chained (w .count)
-    span = chained-span at (w .count) odd long
-
-    turn-mark : 8 * b + 1 - chained (w .count) ≡ at
-    turn-mark = omega (arith, span, reaches-byte w at long)
 
     ahead-is : next Skip t w at ≡ min (8 * b + 1) (places t w)
     ahead-is = rw last (skip-next-is at long)
 
-    -- its chain is walked
-    pub turn-step : (at' hits' : ℕ) (no-cell : Bool) (list' : List ℕ) → Stepped Skip t w (8 * b + 1 - chained (w .count)) list hits at' hits' no-cell list'
+    -- its places are walked
+    pub turn-step : (at' hits' : ℕ) (no-cell : Bool) (list' : List ℕ) → Stepped Skip t w at list hits at' hits' no-cell list'
         → Advanced Skip t w s budget before had at' (counted no-cell steps) hits' no-cell list'
     turn-step at' hits' no-cell list' u =
-        advanced-step Skip t w s budget before had at steps hits list room (rw here at made) at' hits' no-cell list' inside few (rw turn-mark at u)
+        advanced-step Skip t w s budget before had at steps hits list room (rw here at made) at' hits' no-cell list' inside few u
 
-    -- each of its places has a cell
-    pub turn-whole : (at' hits' : ℕ) (list' : List ℕ) → Stepped Skip t w (8 * b + 1 - chained (w .count)) list hits at' hits' false list'
+    -- each of them has a cell
+    pub turn-whole : (at' hits' : ℕ) (list' : List ℕ) → Stepped Skip t w at list hits at' hits' false list'
         → Advanced Skip t w s budget before had (min (8 * b + 1) (places t w)) (steps + 1) hits' false list'
-    turn-whole at' hits' list' u =
-        let one : Stepped Skip t w at list hits at' hits' false list' = rw turn-mark at u in
-        rw (one .mark ∙ ahead-is) at (turn-step at' hits' false list' u)
+    turn-whole at' hits' list' u = rw (u .mark ∙ ahead-is) at (turn-step at' hits' false list' u)
 
 -- how far the places of a step reach: the index of each fits into the pattern
 pub span-fits : (s m : ℕ) → 15 ≤ m → 8 * ((s + m) / 8 - 1) + 1 - s + 7 ≤ m

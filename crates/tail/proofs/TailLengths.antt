@@ -1,13 +1,13 @@
 -- Laws of the lengths that are left: the highest one, what a comparison says of one, and the greatest that the comparison bears out.
 -- Assumes nothing.
-use Prim.Native.Nat.{ℕ, suc, _+_, _-_, _*_, _/_, _%_, _^_, _≤_, _<_}
+use Prim.Native.Nat.{ℕ, zero, suc, _+_, _-_, _*_, _/_, _%_, _^_, _≤_, _<_, max}
 use mathlib.Core.Path.{_≡_, refl, sym, ap, _∙_}
 use mathlib.Core.Option.{some}
-use native.Mathlib.Nat.{mod-lt, div-self}
+use native.Mathlib.Nat.{div-self}
 use native.Mathlib.Numerals.{one-add}
 use native.Mathlib.Decide.{decLe, ℕ-discrete}
 use native.Mathlib.Omega.{arith}
-use lib.Bits.{bitAnd, bitOr, bitXor, or-lt, xor-lt}
+use lib.Bits.{bitAnd, bitOr, bitXor, and-le-r, or-lt, xor-lt}
 use lib.Count.{leadingZeros, leading-top, leading-of-zero}
 use lib.Pow.{pow-pos, shr-lt, shr-mono}
 use Rattle.bits.specs.Packed.{weight, bitOf}
@@ -15,8 +15,8 @@ use Rattle.bits.proofs.Weight.{weight-lt, weight-out, weight-or, weight-zero}
 use Rattle.rules.specs.Ranges.{greatest}
 use Rattle.rules.specs.Pattern.{Pattern}
 use Rattle.rules.proofs.Ranges.{not-true-false, greatest-some}
-use Rattle.tail.specs.Lengths.{endsIn, MasksOf, Longest, FirstRun, Keeps, Top, Fits, Differs, Settled}
-use Rattle.tail.proofs.TailMasks.{xor-same, xor-other, or-right, and-one, and-left, and-right, low-ones, low-none, shl-twice-high, ends-fits, fits-ends}
+use Rattle.tail.specs.Lengths.{endsIn, MasksOf, careOf, Longest, FirstRun, Four, Keeps, Top, Fits, Differs, Settled}
+use Rattle.tail.proofs.TailMasks.{or-right, and-one, and-left, and-right, not-bit, same-at, same-where, low-ones, low-none, shl-twice-high, shl-set, ends-fits, fits-ends}
 
 -- ---- the highest bit
 
@@ -68,30 +68,21 @@ module _ (d : ℕ) (h : d < 2 ^ 64) where
 
 -- ---- the comparison
 
--- the bits of two words before the first in which they differ, and that one
-module _ (a b : ℕ) (ha : a < 2 ^ 64) (hb : b < 2 ^ 64) where
-  same-at : (i : ℕ) → weight (bitXor a b) i ≡ 0 → weight a i ≡ weight b i
-  same-at i e = pick (ℕ-discrete (weight a i) (weight b i))
-    where
-      pick : Dec (weight a i ≡ weight b i) → weight a i ≡ weight b i
-      pick (yes q) = q
-      pick (no n) = absurd (omega (arith, e, xor-other a b i n))
+-- before the first bit of a word that is set none is
+pub leading-none : (v : ℕ) → v < 2 ^ 64 → (i : ℕ) → i < 64 → i < leadingZeros 64 v → bitOf 64 v i ≡ 0
+leading-none v h i few l = go (ℕ-discrete v 0)
+  where
+    go : Dec (v ≡ 0) → weight v (63 - i) ≡ 0
+    go (yes z) = ap (λ (y : ℕ). weight y (63 - i)) z ∙ weight-zero (63 - i)
+    go (no n) = let t = leading-bits v (omega arith) h in t .2 (63 - i) (omega (arith, t .0))
 
-  pub leading-same : (i : ℕ) → i < 64 → i < leadingZeros 64 (bitXor a b) → bitOf 64 a i ≡ bitOf 64 b i
-  leading-same i h l = same-at (63 - i) (go (ℕ-discrete (bitXor a b) 0))
-    where
-      go : Dec (bitXor a b ≡ 0) → weight (bitXor a b) (63 - i) ≡ 0
-      go (yes z) = ap (λ (y : ℕ). weight y (63 - i)) z ∙ weight-zero (63 - i)
-      go (no n) = let t = leading-bits (bitXor a b) (omega arith) (xor-lt 64 a b ha hb) in t .2 (63 - i) (omega (arith, t .0))
-
-  pub leading-other : leadingZeros 64 (bitXor a b) < 64 → (bitOf 64 a (leadingZeros 64 (bitXor a b)) ≡ bitOf 64 b (leadingZeros 64 (bitXor a b)) → ⊥)
-  leading-other l e = go (ℕ-discrete (bitXor a b) 0)
-    where
-      go : Dec (bitXor a b ≡ 0) → ⊥
-      go (yes z) = omega (arith, ap (leadingZeros 64) z ∙ leading-of-zero 64)
-      go (no n) =
-          let t = leading-bits (bitXor a b) (omega arith) (xor-lt 64 a b ha hb) in
-          omega (arith, t .1, xor-same a b (63 - leadingZeros 64 (bitXor a b)) e)
+-- and that one is
+pub leading-set : (v : ℕ) → v < 2 ^ 64 → leadingZeros 64 v < 64 → bitOf 64 v (leadingZeros 64 v) ≡ 1
+leading-set v h l = go (ℕ-discrete v 0)
+  where
+    go : Dec (v ≡ 0) → bitOf 64 v (leadingZeros 64 v) ≡ 1
+    go (yes z) = absurd (omega (arith, ap (leadingZeros 64) z ∙ leading-of-zero 64))
+    go (no n) = leading-bits v (omega arith) h .1
 
 -- the last r bits of the window, moved to the front
 front-bit : (x r i : ℕ) → r < 64 → i < r → bitOf 64 (x * 2 ^ (63 - r) % 2 ^ 64 * 2 ^ 1 % 2 ^ 64) i ≡ weight x (r - suc i)
@@ -99,32 +90,98 @@ front-bit x r i h l =
     let there : 63 - i - (63 - r + 1) ≡ r - suc i = omega arith in
     shl-twice-high x (63 - r) 1 (63 - i) (omega arith) (omega arith) ∙ ap (weight x) there
 
--- the first index at which the mask differs from them
-pub differs-is : (ones x r : ℕ) → ones < 2 ^ 64 → r < 64 → Differs ones x r (leadingZeros 64 (bitXor ones (x * 2 ^ (63 - r) % 2 ^ 64 * 2 ^ 1 % 2 ^ 64)))
-differs-is ones x r h few =
-    let small : x * 2 ^ (63 - r) % 2 ^ 64 * 2 ^ 1 % 2 ^ 64 < 2 ^ 64 = mod-lt _ (pow-pos 64) in
+-- the first index at which the mask differs from them where it is not wild
+pub differs-is : (ones care x r : ℕ) → care < 2 ^ 64 → r < 64
+    → Differs ones care x r (leadingZeros 64 (bitAnd (bitXor ones (x * 2 ^ (63 - r) % 2 ^ 64 * 2 ^ 1 % 2 ^ 64)) care))
+differs-is ones care x r h few =
     record {
-      same = λ i l u. leading-same ones _ h small i (omega arith) l ∙ front-bit x r i few u;
-      other = λ l e. leading-other ones _ h small (omega arith) (e ∙ sym (front-bit x r _ few l));
+      same = λ i l u e. same-where ones front care (63 - i) .0 (leading-none v small i (omega arith) l) e ∙ front-bit x r i few u;
+      other = λ l fits.
+          let here = leading-set v small (omega arith) in
+          omega (arith, here, same-where ones front care (63 - leadingZeros 64 v) .1 (λ e. fits e ∙ sym (front-bit x r _ few l)));
     }
+  where
+    front : ℕ
+    front = x * 2 ^ (63 - r) % 2 ^ 64 * 2 ^ 1 % 2 ^ 64
+
+    v : ℕ
+    v = bitAnd (bitXor ones front) care
+
+    small : v < 2 ^ 64
+    small = omega (arith, and-le-r (bitXor ones front) care)
 
 -- the first run of a word, as far as it goes
-pub first-run-is : (word flip r : ℕ) → word < 2 ^ 64 → flip < 2 ^ 64 → r ≤ leadingZeros 64 (bitXor word flip) → r ≤ 63 → FirstRun word flip r
-first-run-is word flip r h g l few = record { few = few; like = λ j u. leading-same word flip h g j (omega arith) (omega arith) }
+pub first-run-is : (word flip care r : ℕ) → word < 2 ^ 64 → flip < 2 ^ 64 → care < 2 ^ 64
+    → r ≤ leadingZeros 64 (bitOr (bitXor word flip) (bitXor 18446744073709551615 care)) → r ≤ 63 → FirstRun word flip care r
+first-run-is word flip care r h g f l few =
+    record {
+      few = few;
+      like = λ j u. same-at word flip (63 - j) (omega (arith, none j u));
+      solid = λ j u. omega (arith, none j u, not-bit care (63 - j) (omega arith), weight-lt care (63 - j));
+    }
+  where
+    v : ℕ
+    v = bitOr (bitXor word flip) (bitXor 18446744073709551615 care)
+
+    none : (j : ℕ) → j < r → max (weight (bitXor word flip) (63 - j)) (weight (bitXor 18446744073709551615 care) (63 - j)) ≡ 0
+    none j u =
+        sym (weight-or (bitXor word flip) (bitXor 18446744073709551615 care) (63 - j))
+        ∙ leading-none v (or-lt 64 (bitXor word flip) (bitXor 18446744073709551615 care) (xor-lt 64 word flip h g) (xor-lt 64 18446744073709551615 care (omega arith) f)) j (omega arith) (omega arith)
+
+-- the first of four bits in a row that are not wild, among those with a 1 in `later`
+pub four-is : (care later r : ℕ) → care < 2 ^ 64 → later < 2 ^ 64
+    → let two = bitAnd care (care * 2 ^ 1 % 2 ^ 64) in
+    r ≡ leadingZeros 64 (bitAnd (bitAnd two (two * 2 ^ 2 % 2 ^ 64)) later) → r < 63 → Four care r
+four-is care later r h g e few = record { few = omega arith; solid = λ i l u. bit i l }
+  where
+    two : ℕ
+    two = bitAnd care (care * 2 ^ 1 % 2 ^ 64)
+
+    there : bitOf 64 (bitAnd (bitAnd two (two * 2 ^ 2 % 2 ^ 64)) later) r ≡ 1
+    there =
+        rw e
+        (leading-set (bitAnd (bitAnd two (two * 2 ^ 2 % 2 ^ 64)) later) (omega (arith, and-le-r (bitAnd two (two * 2 ^ 2 % 2 ^ 64)) later)) (omega (arith, sym e)))
+
+    both : bitOf 64 (bitAnd two (two * 2 ^ 2 % 2 ^ 64)) r ≡ 1
+    both = and-left (bitAnd two (two * 2 ^ 2 % 2 ^ 64)) later (63 - r) there
+
+    -- a bit and the next one
+    pair : (j : ℕ) → j < 64 → bitOf 64 two j ≡ 1 → (bitOf 64 care j ≡ 1) × (bitOf 64 care (j + 1) ≡ 1)
+    pair j l t = (and-left care (care * 2 ^ 1 % 2 ^ 64) (63 - j) t, shl-set care 1 j l (and-right care (care * 2 ^ 1 % 2 ^ 64) (63 - j) t) .1)
+
+    front : (bitOf 64 care r ≡ 1) × (bitOf 64 care (r + 1) ≡ 1)
+    front = pair r (omega arith) (and-left two (two * 2 ^ 2 % 2 ^ 64) (63 - r) both)
+
+    later-two : (r + 2 < 64) × (bitOf 64 two (r + 2) ≡ 1)
+    later-two = shl-set two 2 r (omega arith) (and-right two (two * 2 ^ 2 % 2 ^ 64) (63 - r) both)
+
+    back : (bitOf 64 care (r + 2) ≡ 1) × (bitOf 64 care (r + 2 + 1) ≡ 1)
+    back = pair (r + 2) (later-two .0) (later-two .1)
+
+    bit : (i : ℕ) → i < 4 → bitOf 64 care (r + i) ≡ 1
+    bit zero l = let at : r + 0 ≡ r = omega arith in rw at (front .0)
+    bit (suc zero) l = front .1
+    bit (suc (suc zero)) l = back .0
+    bit (suc (suc (suc zero))) l = let at : r + 3 ≡ r + 2 + 1 = omega arith in rw at (back .1)
+    bit (suc (suc (suc (suc i)))) l = absurd (omega arith)
+
+-- and where there are none
+pub four-none : (care : ℕ) → Four care 63
+four-none care = record { few = omega arith; solid = λ i l u. absurd (omega arith) }
 
 -- ---- the greatest length that fits
 
 -- the lengths that fit are still left, and no others have come
-pub record Going (ones x d left : ℕ) : Type 0 where
+pub record Going (ones care x d left : ℕ) : Type 0 where
   pub from : (i : ℕ) → weight left i ≡ 1 → weight d i ≡ 1
-  pub kept : (i : ℕ) → weight d i ≡ 1 → Fits ones x i → weight left i ≡ 1
+  pub kept : (i : ℕ) → weight d i ≡ 1 → Fits ones care x i → weight left i ≡ 1
 
-pub going-first : (ones x d : ℕ) → Going ones x d d
-going-first ones x d = record { from = λ i e. e; kept = λ i e f. e }
+pub going-first : (ones care x d : ℕ) → Going ones care x d d
+going-first ones care x d = record { from = λ i e. e; kept = λ i e f. e }
 
-module _ (ones x d left r j : ℕ) (top : Top left r) (differs : Differs ones x r j) (going : Going ones x d left) where
+module _ (ones care x d left r j : ℕ) (top : Top left r) (differs : Differs ones care x r j) (going : Going ones care x d left) where
   -- the longest one does not fit
-  pub going-less : j < r → Going ones x d (bitAnd left (18446744073709551615 / 2 ^ (64 - r)))
+  pub going-less : j < r → Going ones care x d (bitAnd left (18446744073709551615 / 2 ^ (64 - r)))
   going-less l =
       record {
         from = λ i e. going .from i (and-left left (18446744073709551615 / 2 ^ (64 - r)) i e);
@@ -133,7 +190,7 @@ module _ (ones x d left r j : ℕ) (top : Top left r) (differs : Differs ones x 
             and-one left (18446744073709551615 / 2 ^ (64 - r)) i here (low-ones r i (omega (arith, top .few)) (shorter i f here));
       }
     where
-      shorter : (i : ℕ) → Fits ones x i → weight left i ≡ 1 → i < r
+      shorter : (i : ℕ) → Fits ones care x i → weight left i ≡ 1 → i < r
       shorter i f e = go (decLe i r)
         where
           apart : i ≤ r → Dec (i ≡ r) → i < r
@@ -160,7 +217,7 @@ module _ (ones x d left r j : ℕ) (top : Top left r) (differs : Differs ones x 
       go (no n) = omega arith
 
   -- the longest one fits
-  pub settled : r ≤ j → Settled ones x d r
+  pub settled : r ≤ j → Settled ones care x d r
   settled l =
       record {
         few = top .few;
@@ -170,8 +227,8 @@ module _ (ones x d left r j : ℕ) (top : Top left r) (differs : Differs ones x 
       }
 
 -- the greatest length of all, from the greatest of those left
-pub longest-of : (m zeros ones x d r : ℕ) → 0 < m → Keeps m zeros ones x d → Settled ones x d r → Longest m zeros ones x r
-longest-of m zeros ones x d r pos keeps s = record { below = below; is = is }
+pub longest-of : (m zeros ones x d r : ℕ) → 0 < m → m ≤ 64 → Keeps m zeros ones x d → Settled ones (careOf zeros ones) x d r → Longest m zeros ones x r
+longest-of m zeros ones x d r pos short keeps s = record { below = below; is = is }
   where
     below : r < m
     below = go (decLe m r)
@@ -183,7 +240,7 @@ longest-of m zeros ones x d r pos keeps s = record { below = below; is = is }
     is : (w : Pattern) → w .count ≡ m → MasksOf w zeros ones → greatest (endsIn w x) m ≡ some r
     is w c masks =
         greatest-some (endsIn w x) m r below
-        (fits-ends w zeros ones masks x r (omega (arith, below)) (s .fits))
+        (fits-ends w zeros ones masks x r (omega (arith, below)) (omega (arith, below)) (s .fits))
         (λ i l u.
         not-true-false (endsIn w x i) (λ e.
-        s .none-above i l (keeps .kept w c masks i u e) (ends-fits w zeros ones masks x i (omega arith) e)))
+        s .none-above i l (keeps .kept w c masks i u e) (ends-fits w zeros ones masks x i (omega arith) (omega arith) e)))

@@ -4,6 +4,7 @@ use Prim.Native.Nat.{ℕ, suc, _+_, _-_, _*_, _/_, _%_, _^_, _≤_, _<_}
 use mathlib.Core.Path.{_≡_}
 use mathlib.Core.Bool.{Bool, true, cond}
 use mathlib.Core.Option.{some}
+use lib.Bits.{bitAnd, bitXor}
 use lib.Dec.{eqb}
 use Rattle.bits.specs.Packed.{weight, bitOf}
 use Rattle.rules.specs.Ranges.{every, greatest}
@@ -34,32 +35,44 @@ pub record Moves (k : Masks) (x far : ℕ) : Type 0 where
 unfoldable pub spreadOf : ℕ → ℕ → ℕ
 spreadOf zeros j = cond (eqb (bitOf 64 zeros j) 1) (2 ^ 64 - 1) ((2 ^ 64 - 1) / 2 ^ (63 - j))
 
--- the first bit of a word in every bit
-unfoldable pub firstBit : ℕ → ℕ
-firstBit word = cond (eqb (word / 2 ^ 63) 1) (2 ^ 64 - 1) 0
+-- bit j of a word in every bit
+unfoldable pub everyBit : ℕ → ℕ → ℕ
+everyBit word j = cond (eqb (bitOf 64 word j) 1) (2 ^ 64 - 1) 0
 
--- the first r bits of the word are those of `flip`
-pub record FirstRun (word flip r : ℕ) : Type 0 where
+-- a 0 for each wild bit, and a 1 for every other: where both masks have a 1 the pattern's bit is wild
+abbrev pub careOf : ℕ → ℕ → ℕ
+careOf zeros ones = bitXor (2 ^ 64 - 1) (bitAnd zeros ones)
+
+-- the first r bits of the word are not wild, and are those of `flip`
+pub record FirstRun (word flip care r : ℕ) : Type 0 where
   pub few : r ≤ 63
   pub like : (j : ℕ) → j < r → bitOf 64 word j ≡ bitOf 64 flip j
+  pub solid : (j : ℕ) → j < r → bitOf 64 care j ≡ 1
 
--- What is made of the masks for all steps of a call: a 1 for each length below the bit count, the first bit in every bit, a 1 for each
--- length above the first run, and eight bits of the pattern, each spread.
+-- The four bits from r on are not wild, as far as they can rule a length out, which is below 64.
+pub record Four (care r : ℕ) : Type 0 where
+  pub few : r ≤ 63
+  pub solid : (i : ℕ) → i < 4 → r + i < 63 → bitOf 64 care (r + i) ≡ 1
+
+-- What is made of the masks for all steps of a call: which bits are not wild, a 1 for each length below the bit count, the first bit in
+-- every bit, a 1 for each length above the first run, and twice four bits of the pattern, each spread.
 pub record Made (k : Masks) : Type 0 where
   pub run : ℕ
+  pub care-is : k .care ≡ careOf (k .zeros) (k .ones)
   pub below-is : k .below ≡ 18446744073709551615 / 2 ^ (64 - k .m)
-  pub flip-is : k .flip ≡ firstBit (k .ones)
-  pub run-is : FirstRun (k .ones) (k .flip) run
+  pub flip-is : k .flip ≡ everyBit (k .ones) 0
+  pub run-is : FirstRun (k .ones) (k .flip) (k .care) run
   pub past-is : k .past ≡ 18446744073709551615 * 2 ^ run % 2 ^ 64 * 2 ^ 1 % 2 ^ 64
-  pub few : k .from ≤ 56
+  pub first : Four (k .care) (k .from)
+  pub second : Four (k .care) (k .other)
   pub is0 : k .b0 ≡ spreadOf (k .zeros) (k .from)
   pub is1 : k .b1 ≡ spreadOf (k .zeros) (k .from + 1)
   pub is2 : k .b2 ≡ spreadOf (k .zeros) (k .from + 2)
   pub is3 : k .b3 ≡ spreadOf (k .zeros) (k .from + 3)
-  pub is4 : k .b4 ≡ spreadOf (k .zeros) (k .from + 4)
-  pub is5 : k .b5 ≡ spreadOf (k .zeros) (k .from + 5)
-  pub is6 : k .b6 ≡ spreadOf (k .zeros) (k .from + 6)
-  pub is7 : k .b7 ≡ spreadOf (k .zeros) (k .from + 7)
+  pub is4 : k .b4 ≡ spreadOf (k .zeros) (k .other)
+  pub is5 : k .b5 ≡ spreadOf (k .zeros) (k .other + 1)
+  pub is6 : k .b6 ≡ spreadOf (k .zeros) (k .other + 2)
+  pub is7 : k .b7 ≡ spreadOf (k .zeros) (k .other + 3)
 
 -- For each pattern of m bits whose masks these are: no length from m on is left in d, and each length below m at which the pattern's
 -- first bits are the window's last is left. Others may be, since each is compared.
@@ -73,18 +86,22 @@ pub record Top (d r : ℕ) : Type 0 where
   pub set : 0 < r → weight d r ≡ 1
   pub above : (i : ℕ) → r < i → weight d i ≡ 0
 
--- the first r bits of the mask are the last r bits of the window
-abbrev pub Fits : ℕ → ℕ → ℕ → Type 0
-Fits ones x r = (i : ℕ) → i < r → bitOf 64 ones i ≡ weight x (r - suc i)
+-- bit i of the mask, unless it is wild, is that of the last r bits of the window
+abbrev pub FitsAt : ℕ → ℕ → ℕ → ℕ → ℕ → Type 0
+FitsAt ones care x r i = bitOf 64 care i ≡ 1 → bitOf 64 ones i ≡ weight x (r - suc i)
+
+-- so are all its first r bits
+abbrev pub Fits : ℕ → ℕ → ℕ → ℕ → Type 0
+Fits ones care x r = (i : ℕ) → i < r → FitsAt ones care x r i
 
 -- the mask's bits before j are those of the last r bits of the window, and its bit j is not, as far as r goes
-pub record Differs (ones x r j : ℕ) : Type 0 where
-  pub same : (i : ℕ) → i < j → i < r → bitOf 64 ones i ≡ weight x (r - suc i)
-  pub other : j < r → (bitOf 64 ones j ≡ weight x (r - suc j) → ⊥)
+pub record Differs (ones care x r j : ℕ) : Type 0 where
+  pub same : (i : ℕ) → i < j → i < r → FitsAt ones care x r i
+  pub other : j < r → (FitsAt ones care x r j → ⊥)
 
 -- r is the greatest of the lengths d at which the mask's first bits are the window's last, or 0
-pub record Settled (ones x d r : ℕ) : Type 0 where
+pub record Settled (ones care x d r : ℕ) : Type 0 where
   pub few : r < 64
   pub left : 0 < r → weight d r ≡ 1
-  pub fits : Fits ones x r
-  pub none-above : (i : ℕ) → r < i → weight d i ≡ 1 → Fits ones x i → ⊥
+  pub fits : Fits ones care x r
+  pub none-above : (i : ℕ) → r < i → weight d i ≡ 1 → Fits ones care x i → ⊥

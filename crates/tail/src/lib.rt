@@ -13,13 +13,14 @@
 // lengths inside the run are decided by the run at the window's end.
 //
 // Cell 0 of the table is the mask for text bits of 0, cell 1 that for text bits of 1: bit j from the left is 1 where the
-// pattern has that bit at index j.
+// pattern has that bit at index j, or a wild one. Both are 1 just at its wild bits. A wild bit rules no length out: the run
+// that decides lengths ends before it, and the eight bits are twice four in a row without one.
 use bits::ByteNo;
 use bits::Place;
 use bits::load;
 use matcher::Advance;
 use matcher::Found;
-use matcher::compare::Head;
+use matcher::compare::Known;
 use rules::Method;
 ghost use mathlib.Core.Path.{_≡_};
 ghost use Prim.Native.Nat.{_≤_, _<_};
@@ -28,21 +29,22 @@ ghost use Rattle.bits.specs.Packed.{bitsAt};
 ghost use Rattle.rules.specs.Occurrence.{places};
 ghost use Rattle.rules.specs.Scratch.{scratchCells};
 ghost use Rattle.matcher.specs.Tables.{Prepared};
-ghost use Rattle.tail.specs.Lengths.{Longest, Moves, spreadOf, firstBit, FirstRun, Made, Keeps, Top, Differs, Settled};
-ghost use Rattle.matcher.specs.Progress.{textOf, patternOf, HeadOf, GoodPattern, Ready, Stepped, Advanced};
+ghost use Rattle.tail.specs.Lengths.{Longest, Moves, spreadOf, everyBit, FirstRun, Four, Made, Keeps, Top, Differs, Settled};
+ghost use Rattle.matcher.specs.Progress.{patternOf, textIn, patternIn, HeadOf, GoodPattern, Ready, Stepped, Advanced};
 
 const ALL: u64 = 18446744073709551615;
 
-// Makes the two masks.
-pub fn prepare(pattern: &[u8], m: u32, cells: &mut [u64])
-    requires { ⌜ GoodPattern Method.Tail (patternOf (now pattern) m) ⌝ }
+// Makes the two masks: a wild bit is 1 in both.
+pub fn prepare(pattern: &[u8], fixed: &[u8], m: u32, cells: &mut [u64])
+    requires { ⌜ GoodPattern Method.Tail (patternOf (now pattern) (now fixed) m) ⌝ }
     requires { ⌜ scratchCells Method.Tail m ≤ length (now cells) ⌝ }
-    ensures { λ _. ⌜ Prepared Method.Tail (patternOf (now (pattern .entry)) m) (now (cells .entry)) (now (cells .exit)) ⌝ }
+    ensures { λ _. ⌜ Prepared Method.Tail (patternOf (now (pattern .entry)) (now (fixed .entry)) m) (now (cells .entry)) (now (cells .exit)) ⌝ }
 {
     let inside = ALL << (64 - m);
-    let ones = load::word_at_byte(pattern, ByteNo(0)) & inside;
-    cells[0] = ones ^ inside;
-    cells[1] = ones;
+    let care = load::word_at_byte(fixed, ByteNo(0)) & inside;
+    let ones = load::word_at_byte(pattern, ByteNo(0)) & care;
+    cells[0] = inside ^ ones;
+    cells[1] = ones | (inside ^ care);
 }
 
 // The m bits of the bytes from s on, at most 64. One machine load shows up to 57 bits wherever in its byte s lies.
@@ -60,28 +62,43 @@ fn window(bytes: &[u8], m: u32, s: Place) -> u64
 }
 
 // What the window, moved up by j + 1, is XORed with for the pattern's bit j: ones for each length that is not above j, and
-// for the others the pattern's bit turned over.
+// for the others the pattern's bit turned over. No length is above 63.
 fn spread(zeros: u64, j: u32) -> u64
-    requires { ⌜ j < 64 ⌝ }
     ensures { λ r. ⌜ r ≡ spreadOf zeros j ⌝ }
 {
+    if 63 <= j {
+        return ALL;
+    }
     if (zeros >> (63 - j)) % 2 == 1 {
         return ALL;
     }
     ALL >> (63 - j)
 }
 
-// What the steps of a call share: the pattern's bit count and its masks; a 1 for each length below the bit count in `below`; its
-// first bit, in every bit of `flip`; a 1 for each length above its first run in `past`; and eight of its bits, from bit `from`
-// on, each spread over a word.
+// Bit j of a word in every bit.
+fn every_bit(word: u64, j: u32) -> u64
+    requires { ⌜ j < 64 ⌝ }
+    ensures { λ r. ⌜ r ≡ everyBit word j ⌝ }
+{
+    if (word >> (63 - j)) % 2 == 1 {
+        return ALL;
+    }
+    0
+}
+
+// What the steps of a call share: the pattern's bit count and its masks; a 0 for each of its wild bits in `care`; a 1 for each
+// length below the bit count in `below`; its first bit, in every bit of `flip`; a 1 for each length above its first run in
+// `past`; and eight of its bits, four from bit `from` on and four from bit `other` on, each spread over a word.
 struct Masks {
     m: u32,
     zeros: u64,
     ones: u64,
+    care: u64,
     below: u64,
     flip: u64,
     past: u64,
     from: u32,
+    other: u32,
     b0: u64,
     b1: u64,
     b2: u64,
@@ -92,62 +109,71 @@ struct Masks {
     b7: u64,
 }
 
-// The first bit of a word in every bit.
-fn first_bit(word: u64) -> u64
-    ensures { λ r. ⌜ r ≡ firstBit word ⌝ }
+// How many bits at the front of a word are not wild and like its first one, at most 63. Fewer would be right too, and rule out
+// less.
+fn first_run(word: u64, flip: u64, care: u64) -> u32
+    ensures { λ r. ⌜ FirstRun word flip care r ⌝ }
 {
-    if word >> 63 == 1 {
-        return ALL;
-    }
-    0
-}
-
-// How many bits at the front of a word are like its first one, at most 63. Fewer would be right too, and rule out less.
-fn first_run(word: u64, flip: u64) -> u32
-    ensures { λ r. ⌜ FirstRun word flip r ⌝ }
-{
-    let run = u64::leading_zeros(word ^ flip);
+    let run = u64::leading_zeros((word ^ flip) | (ALL ^ care));
     if run < 63 {
         return run;
     }
     63
 }
 
-// The first of eight bits, the last of which is the one after the run, but at least bit 7. Any eight bits are right; these
-// rule out most.
-fn eight_from(run: u32) -> u32
-    requires { ⌜ run ≤ 63 ⌝ }
+// Where to look for the eight bits: at the beginning, or, where all bits at the front are alike or wild, so that eight bits
+// end with the first one that is neither. Any eight bits are right; these rule out most.
+fn start(ones: u64, care: u64) -> u32
     ensures { λ r. ⌜ r ≤ 56 ⌝ }
 {
-    if run < 7 {
+    let flip = every_bit(ones, u64::leading_zeros(care | 1));
+    let alike = u64::leading_zeros(((ones ^ flip) & care) | 1);
+    if alike < 7 {
         return 0;
     }
-    run - 7
+    alike - 7
+}
+
+// The first index, of those with a 1 in `later`, from which on four bits in a row are not wild; where there is none, 63, from
+// which on no bit rules a length out.
+fn four(care: u64, later: u64) -> u32
+    ensures { λ r. ⌜ Four care r ⌝ }
+{
+    let two = care & (care << 1);
+    let first = u64::leading_zeros(two & (two << 2) & later);
+    if first < 63 {
+        return first;
+    }
+    63
 }
 
 fn masks_of(m: u32, zeros: u64, ones: u64) -> Masks
     requires { ⌜ (0 < m) × (m ≤ 64) ⌝ }
     ensures { λ r. ⌜ (r .m ≡ m) × (r .zeros ≡ zeros) × (r .ones ≡ ones) × Made r ⌝ }
 {
-    let flip = first_bit(ones);
-    let run = first_run(ones, flip);
-    let from = eight_from(run);
+    let care = ALL ^ (zeros & ones);
+    let flip = every_bit(ones, 0);
+    let run = first_run(ones, flip, care);
+    let from = four(care, ALL >> start(ones, care));
+    let other = four(care, (ALL >> from) >> 4);
     Masks {
         m: m,
         zeros: zeros,
         ones: ones,
+        care: care,
         below: ALL >> (64 - m),
         flip: flip,
         past: (ALL << run) << 1,
         from: from,
+        other: other,
         b0: spread(zeros, from),
         b1: spread(zeros, from + 1),
         b2: spread(zeros, from + 2),
         b3: spread(zeros, from + 3),
-        b4: spread(zeros, from + 4),
-        b5: spread(zeros, from + 5),
-        b6: spread(zeros, from + 6),
-        b7: spread(zeros, from + 7),
+        b4: spread(zeros, other),
+        b5: spread(zeros, other + 1),
+        b6: spread(zeros, other + 2),
+        b7: spread(zeros, other + 3),
     }
 }
 
@@ -157,15 +183,16 @@ fn lengths_left(k: Masks, x: u64) -> u64
     ensures { λ r. ⌜ Keeps (k .m) (k .zeros) (k .ones) x r ⌝ }
 {
     let y = x << k.from;
+    let z = x << k.other;
     let end = (x ^ k.flip) | 9223372036854775808;
     ((y << 1) ^ k.b0)
         & ((y << 2) ^ k.b1)
         & ((y << 3) ^ k.b2)
         & ((y << 4) ^ k.b3)
-        & ((y << 5) ^ k.b4)
-        & ((y << 6) ^ k.b5)
-        & ((y << 7) ^ k.b6)
-        & ((y << 8) ^ k.b7)
+        & ((z << 1) ^ k.b4)
+        & ((z << 2) ^ k.b5)
+        & ((z << 3) ^ k.b6)
+        & ((z << 4) ^ k.b7)
         & (k.past | (end ^ (end - 1)))
         & k.below
 }
@@ -177,25 +204,25 @@ fn top(d: u64) -> u32
     63 - u64::leading_zeros(d | 1)
 }
 
-// The first index at which the pattern differs from the last r bits of the window, if that is below r.
-fn first_difference(ones: u64, x: u64, r: u32) -> u32
+// The first index at which the pattern is fixed and differs from the last r bits of the window, if that is below r.
+fn first_difference(ones: u64, care: u64, x: u64, r: u32) -> u32
     requires { ⌜ r < 64 ⌝ }
-    ensures { λ j. ⌜ Differs ones x r j ⌝ }
+    ensures { λ j. ⌜ Differs ones care x r j ⌝ }
 {
-    u64::leading_zeros(ones ^ ((x << (63 - r)) << 1))
+    u64::leading_zeros((ones ^ ((x << (63 - r)) << 1)) & care)
 }
 
 // The greatest of the lengths d at which the pattern's first bits are the window's last, the longest first.
-fn compare_down(ones: u64, x: u64, d: u64) -> u32
-    ensures { λ r. ⌜ Settled ones x d r ⌝ }
+fn compare_down(ones: u64, care: u64, x: u64, d: u64) -> u32
+    ensures { λ r. ⌜ Settled ones care x d r ⌝ }
 {
     let mut left = d;
     let mut r = top(left);
-    let mut j = first_difference(ones, x, r);
+    let mut j = first_difference(ones, care, x, r);
     while j < r {
         left = left & (ALL >> (64 - r));
         r = top(left);
-        j = first_difference(ones, x, r);
+        j = first_difference(ones, care, x, r);
     }
     r
 }
@@ -205,7 +232,7 @@ fn longest(k: Masks, x: u64) -> u32
     requires { ⌜ (0 < k .m) × (k .m ≤ 64) × Made k ⌝ }
     ensures { λ r. ⌜ Longest (k .m) (k .zeros) (k .ones) x r ⌝ }
 {
-    compare_down(k.ones, x, lengths_left(k, x))
+    compare_down(k.ones, k.care, x, lengths_left(k, x))
 }
 
 // How far the mark moves from the window x, given the move from another window. Where the two are the same, so are the moves:
@@ -220,28 +247,28 @@ fn move_from(k: Masks, x: u64, last: u64, far: u32) -> u32
     k.m - longest(k, x)
 }
 
-// One step: the place is found just if the window is the pattern.
+// One step: the place is found just if the window agrees with the pattern.
 pub fn step(
     text: &[u8],
-    n: u32,
     pattern: &[u8],
-    m: u32,
-    h: Head,
+    fixed: &[u8],
+    known: Known,
     cells: &[u64],
     s: Place,
     list: &mut [u32],
     had: usize,
 ) -> Found
-    requires { ⌜ Ready Method.Tail (textOf (now text) n) (patternOf (now pattern) m) (now cells) ⌝ }
-    requires { ⌜ HeadOf (patternOf (now pattern) m) (h .bits) (h .cut) ⌝ }
-    requires { ⌜ (s .0 < places (textOf (now text) n) (patternOf (now pattern) m)) × (had ≤ length (now list)) ⌝ }
-    ensures { λ r. ⌜ Stepped Method.Tail (textOf (now (text .entry)) n) (patternOf (now (pattern .entry)) m) (s .0) (now (list .entry)) had (r .at .0) (r .hits) (r .full) (now (list .exit)) ⌝ }
+    requires { ⌜ Ready Method.Tail (textIn (now text) known) (patternIn (now pattern) (now fixed) known) (now cells) ⌝ }
+    requires { ⌜ HeadOf (patternIn (now pattern) (now fixed) known) (known .head) (known .mask) ⌝ }
+    requires { ⌜ (s .0 < places (textIn (now text) known) (patternIn (now pattern) (now fixed) known)) × (had ≤ length (now list)) ⌝ }
+    ensures { λ r. ⌜ Stepped Method.Tail (textIn (now (text .entry)) known) (patternIn (now (pattern .entry)) (now (fixed .entry)) known) (s .0) (now (list .entry)) had (r .at .0) (r .hits) (r .full) (now (list .exit)) ⌝ }
 {
+    let m = known.m;
     let k = masks_of(m, cells[0], cells[1]);
     let x = window(text, m, s);
     let far = s.0 + (m - longest(k, x));
-    let next = Place(matcher::cut(far, n - m + 1));
-    if x == k.ones >> (64 - m) {
+    let next = Place(matcher::cut(far, known.n - m + 1));
+    if (x ^ (k.ones >> (64 - m))) & (k.care >> (64 - m)) == 0 {
         if had < list.len() {
             list[had] = s.0;
             return Found {
@@ -263,23 +290,23 @@ pub fn step(
     }
 }
 
-// Many steps. After an occurrence the move is always the same, since the window is the pattern itself.
+// Many steps. Where the window is the pattern itself, its wild bits taken as ones, the move is always the same, and no other
+// test is needed.
 pub fn advance(
     text: &[u8],
-    n: u32,
     pattern: &[u8],
-    m: u32,
-    h: Head,
+    fixed: &[u8],
+    known: Known,
     cells: &[u64],
     s: Place,
     budget: u32,
     list: &mut [u32],
     had: usize,
 ) -> Advance
-    requires { ⌜ Ready Method.Tail (textOf (now text) n) (patternOf (now pattern) m) (now cells) ⌝ }
-    requires { ⌜ HeadOf (patternOf (now pattern) m) (h .bits) (h .cut) ⌝ }
-    requires { ⌜ (s .0 ≤ places (textOf (now text) n) (patternOf (now pattern) m)) × (had ≤ length (now list)) ⌝ }
-    ensures { λ r. ⌜ Advanced Method.Tail (textOf (now (text .entry)) n) (patternOf (now (pattern .entry)) m) (s .0) budget (now (list .entry)) had (r .at .0) (r .steps) (r .hits) (r .full) (now (list .exit)) ⌝ }
+    requires { ⌜ Ready Method.Tail (textIn (now text) known) (patternIn (now pattern) (now fixed) known) (now cells) ⌝ }
+    requires { ⌜ HeadOf (patternIn (now pattern) (now fixed) known) (known .head) (known .mask) ⌝ }
+    requires { ⌜ (s .0 ≤ places (textIn (now text) known) (patternIn (now pattern) (now fixed) known)) × (had ≤ length (now list)) ⌝ }
+    ensures { λ r. ⌜ Advanced Method.Tail (textIn (now (text .entry)) known) (patternIn (now (pattern .entry)) (now (fixed .entry)) known) (s .0) budget (now (list .entry)) had (r .at .0) (r .steps) (r .hits) (r .full) (now (list .exit)) ⌝ }
 {
     if budget == 0 {
         return Advance {
@@ -289,18 +316,19 @@ pub fn advance(
             full: false,
         };
     }
-    let end = n - m + 1;
-    let k = masks_of(m, cells[0], cells[1]);
-    let whole = k.ones >> (64 - m);
-    let period = m - longest(k, whole);
+    let end = known.n - known.m + 1;
+    let k = masks_of(known.m, cells[0], cells[1]);
+    let whole = k.ones >> (64 - known.m);
+    let care = k.care >> (64 - known.m);
+    let period = known.m - longest(k, whole);
     let mut last = whole;
     let mut far = period;
     let mut at = s.0;
     let mut steps = 0u32;
     let mut hits = had;
     while at < end && steps < budget {
-        let x = window(text, m, Place(at));
-        if x == whole {
+        let x = window(text, known.m, Place(at));
+        if x == whole || (x ^ whole) & care == 0 {
             if list.len() <= hits {
                 return Advance {
                     at: Place(at),
@@ -311,14 +339,15 @@ pub fn advance(
             }
             list[hits] = at;
             hits += 1;
-            steps += 1;
+        }
+        if x == whole {
             at += period;
         } else {
             far = move_from(k, x, last, far);
             last = x;
-            steps += 1;
             at += far;
         }
+        steps += 1;
     }
     Advance {
         at: Place(matcher::cut(at, end)),

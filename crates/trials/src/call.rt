@@ -6,6 +6,7 @@ use draws::cells;
 use draws::number::least_of;
 use draws::number::plus;
 use draws::number::small;
+use draws::packed::FIXED;
 use draws::packed::TEXT;
 use draws::packed::part;
 use search::Mark;
@@ -22,13 +23,14 @@ pub(crate) const SCRATCH: usize = 4233;
 // So many cells lie before that run, and are lent to no call.
 pub(crate) const GUARD: usize = 5;
 
-// What a call is given: n bits of text in `text` bytes, m bits of pattern in `pattern` bytes, the method by its number, mark
-// and budget, and how many cells of the list and of the scratch are lent.
+// What a call is given: n bits of text in `text` bytes, m bits of pattern in `pattern` bytes and of its second run in
+// `fixed` bytes, the method by its number, mark and budget, and how many cells of the list and of the scratch are lent.
 pub(crate) struct Call {
     pub n: usize,
     pub text: usize,
     pub m: usize,
     pub pattern: usize,
+    pub fixed: usize,
     pub way: usize,
     pub mark: usize,
     pub budget: usize,
@@ -58,6 +60,7 @@ fn made(c: Call, s: &[u8], list: &mut [u32], scratch: &mut [u64]) -> Outcome {
         part(s, TEXT, c.text),
         c.n as u64,
         part(s, 0, c.pattern),
+        part(s, FIXED, c.fixed),
         c.m as u64,
         method_of(c.way),
         small(c.budget),

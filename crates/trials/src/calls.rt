@@ -9,6 +9,7 @@ use crate::naive::Run;
 use draws::cells;
 use draws::draw::choose;
 use draws::draw::draw;
+use draws::number::ceiling;
 use draws::number::least_of;
 use draws::number::minus;
 use draws::number::plus;
@@ -41,15 +42,27 @@ fn drawn_scratch(k: usize, x: usize, d: usize) -> usize {
     }
 }
 
-// The next call of a list, of which so many are left, has a method, a budget, cells and a scratch of its own, each from a
-// draw of its own: a call has 16 of them.
-fn next_call(c: Call, x: usize, left: usize) -> Call {
+// Bytes of the second run, of which the pattern takes k: enough, or one too few once in 16 calls of a pattern with wild
+// bits.
+fn drawn_fixed(k: usize, wild: usize, x: usize, d: usize) -> usize {
+    let more = draw(x, d, 16);
+    if more < wild {
+        minus(k, 1)
+    } else {
+        plus(k, more % 3)
+    }
+}
+
+// The next call of a list, of which so many are left, has a method, a budget, cells, a scratch and bytes of the second
+// run of its own, each from a draw of its own: a call has 16 of them.
+fn next_call(c: Call, wild: usize, x: usize, left: usize) -> Call {
     let d = left % 16 * 16 + 16;
     let mut call = c;
     call.way = drawn_way(c.m, x, d);
     call.budget = choose(&BUDGETS, draw(x, d + 3, 12), x, d + 4);
     call.room = choose(&ROOMS, draw(x, d + 5, 8), x, d + 6);
     call.scratch = drawn_scratch(naive::figure(call.way, c.m), x, d + 7);
+    call.fixed = drawn_fixed(ceiling(c.m), wild, x, d + 9);
     call
 }
 
@@ -109,9 +122,9 @@ fn refill(c: Call, x: usize, scratch: &mut [u64; SCRATCH]) {
     cells::fill64(scratch, plus(GUARD, used), x);
 }
 
-// Twelve calls from mark to mark, with one scratch. Each is lent the cells after what the calls before it wrote, so that
-// the list holds all of it, joined.
-pub(crate) fn joined(first: Call, x: usize, s: &[u8], list: &mut [u32]) -> bool {
+// Twelve calls from mark to mark, with one scratch; `wild` is 1 for a pattern with wild bits, and else 0. Each is lent
+// the cells after what the calls before it wrote, so that the list holds all of it, joined.
+pub(crate) fn joined(first: Call, wild: usize, x: usize, s: &[u8], list: &mut [u32]) -> bool {
     let mut scratch = [0u64; SCRATCH];
     cells::fill64(&mut scratch, 0, x);
     let mut c = first;
@@ -124,7 +137,7 @@ pub(crate) fn joined(first: Call, x: usize, s: &[u8], list: &mut [u32]) -> bool 
     };
     let mut left: usize = 12;
     while 0 < left {
-        c = next_call(c, x, left);
+        c = next_call(c, wild, x, left);
         refill(c, x, &mut scratch);
         let a = least_of(t.hits, list.len());
         let run = judged(c, x, s, &mut list[a..], &mut scratch);

@@ -6,6 +6,8 @@ use crate::call::single;
 use crate::calls::joined;
 use crate::naive;
 use crate::single::cells_told;
+use crate::wild::change_free;
+use crate::wild::second_run;
 use draws::draw::choose;
 use draws::draw::draw;
 use draws::draw::entry;
@@ -14,6 +16,7 @@ use draws::number::least_of;
 use draws::number::minus;
 use draws::number::plus;
 use draws::packed;
+use draws::packed::BYTES;
 use draws::packed::TEXT_BIT;
 
 // Lengths of the pattern of every class, out of 40.
@@ -56,6 +59,17 @@ pub(crate) fn pattern_length(x: usize, way: usize) -> usize {
         plus(m % 64, naive::shortest(way))
     } else {
         m
+    }
+}
+
+// Once in four draws a pattern with wild bits is up to 149 bits longer, if the method takes it: tables that are made in
+// turns of many indices are then made in several.
+fn longer(m: usize, wild: usize, x: usize, way: usize) -> usize {
+    let more = plus(m, draw(x, 27, 150));
+    if (wild == 0) | (0 < draw(x, 28, 4)) | naive::unfit(way, more) {
+        m
+    } else {
+        more
     }
 }
 
@@ -127,19 +141,25 @@ fn draw_bits(s: &mut [u8], n: usize, m: usize, x: usize) {
     }
 }
 
-// The whole search over a drawn text and pattern, with a cell for each place or up to two more. Text and pattern have just
-// the bytes that they need or up to two more, and the scratch up to six cells more.
-fn whole(way: usize, x: usize, s: &mut [u8]) -> Call {
-    let m = pattern_length(x, way);
+// Once in four draws a bit of the pattern becomes another bit, so that it may almost occur. Then its second run is made.
+fn draw_runs(wild: usize, s: &mut [u8], m: usize, x: usize) {
+    packed::copy(s, draw(x, 15, 2048), draw(x, 16, m), draw(x, 17, 4) / 3 % 2);
+    second_run(wild, s, m, x);
+}
+
+// The whole search over a drawn text and pattern, with a cell for each place or up to two more. Text, pattern and
+// second run have just the bytes that they need or up to two more, and the scratch up to six cells more.
+fn whole(way: usize, wild: usize, x: usize, s: &mut [u8]) -> Call {
+    let m = longer(pattern_length(x, way), wild, x, way);
     let n = text_length(x, m, way);
     draw_bits(s, n, m, x);
-    // once in four draws a bit of the pattern becomes another bit, so that it may almost occur
-    packed::copy(s, draw(x, 15, 2048), draw(x, 16, m), draw(x, 17, 4) / 3 % 2);
+    draw_runs(wild, s, m, x);
     Call {
         n: n,
         text: plus(ceiling(n), draw(x, 11, 3)),
         m: m,
         pattern: plus(ceiling(m), draw(x, 12, 3)),
+        fixed: plus(ceiling(m), draw(x, 22, 3)),
         way: way,
         mark: 0,
         budget: ALL,
@@ -148,8 +168,8 @@ fn whole(way: usize, x: usize, s: &mut [u8]) -> Call {
     }
 }
 
-// The edges: bits of the text, bits of the pattern, bytes of the pattern, and the mark, on top of the number of places
-// less 1.
+// The edges: bits of the text, bits of the pattern, bytes of the pattern and of its second run, and the mark, on top of
+// the number of places less 1.
 const EDGES: [usize; 26] = [
     8,
     9,
@@ -182,16 +202,20 @@ const EDGES: [usize; 26] = [
 // How many rows there are.
 pub(crate) const ROWS: usize = 48000;
 
-// Each refusal at its edges, with the neighbours that are accepted, alone and together: the row's number tells which.
-fn row(edges: &[usize], i: usize) -> Call {
+// Each refusal at its edges, with the neighbours that are accepted, alone and together: the row's number tells which,
+// and a draw the bytes of a second run with wild bits. There are enough of them where no bit is wild.
+fn row(edges: &[usize], wild: usize, i: usize, x: usize, s: &mut [u8]) -> Call {
     let n = entry(edges, i % 5);
     let m = entry(edges, 5 + i / 5 % 12);
     let way = i / 1200 % 5;
+    second_run(wild, s, m, x);
+    let bytes = if wild == 0 { 4 } else { draw(x, 22, 5) };
     Call {
         n: n,
         text: i / 60 % 4,
         m: m,
         pattern: entry(edges, 17 + i / 240 % 5),
+        fixed: entry(edges, 17 + bytes % 5),
         way: way,
         mark: minus(
             plus(naive::places(n, m), entry(edges, 22 + i / 6000 % 4)),
@@ -204,48 +228,75 @@ fn row(edges: &[usize], i: usize) -> Call {
 }
 
 // Each method with each length of the pattern from 0 to 2,050, on a text of up to 149 bits more, with a scratch that is
-// just enough or one cell less: the case's number tells which.
+// just enough or one cell less: the case's number tells which. With wild bits the text is of up to 29 bits more, and it
+// is the second run that has just enough bytes or one less.
 pub(crate) const LENGTHS: usize = 20510;
 
-fn length(i: usize, x: usize, s: &mut [u8]) -> Call {
+fn length(wild: usize, i: usize, x: usize, s: &mut [u8]) -> Call {
     let way = i % 5;
     let m = i / 10 % 2051;
-    let n = plus(m, draw(x, 4, 150));
+    let less = i / 5 % 2;
+    let n = plus(m, draw(x, 4, minus(150, wild % 2 * 120)));
     draw_bits(s, n, m, x);
+    second_run(wild, s, m, x);
     Call {
         n: n,
         text: ceiling(n),
         m: m,
         pattern: ceiling(m),
+        fixed: minus(ceiling(m), wild & less),
         way: way,
         mark: 0,
         budget: ALL,
         room: naive::places(n, m),
-        scratch: minus(naive::figure(way, m), i / 5 % 2),
+        scratch: minus(naive::figure(way, m), minus(less, wild)),
     }
 }
 
-pub(crate) fn every_length(i: usize, x: usize, s: &mut [u8; 813], list: &mut [u32; 4400]) -> bool {
-    let c = length(i, x, s);
+pub(crate) fn every_length(
+    wild: usize,
+    i: usize,
+    x: usize,
+    s: &mut [u8; BYTES],
+    list: &mut [u32; 4400],
+) -> bool {
+    let c = length(wild, i, x, s);
     let run = single(c, x, s, list);
     run.good & cells_told(c)
 }
 
-// A case over drawn buffers: kinds 0 to 4 are the methods whole, 5 is a list of calls, 6 a row of the refusals.
+// The whole search of a pattern with wild bits, and again after every bit of both runs that does not matter has become
+// the other one.
+pub(crate) fn free_bits(i: usize, x: usize, s: &mut [u8; BYTES], list: &mut [u32; 4400]) -> bool {
+    let c = whole(i % 5, 1, x, s);
+    let run = single(c, x, s, list);
+    change_free(s, c.m, TEXT_BIT, 18446744073709551615);
+    let again = single(c, x, s, list);
+    run.good
+        & again.good
+        & (run.steps == again.steps)
+        & (run.hits == again.hits)
+        & (run.mark == again.mark)
+}
+
+// A case over drawn buffers: kinds 0 to 4 are the methods whole, 5 is a list of calls, 6 a row of the refusals, and
+// with 11 added the same with wild bits.
 pub(crate) fn one(
     kind: usize,
     i: usize,
     x: usize,
-    s: &mut [u8; 813],
+    s: &mut [u8; BYTES],
     list: &mut [u32; 4400],
 ) -> bool {
-    let c = if kind == 6 {
-        row(&EDGES, i)
+    let wild = kind / 11 % 2;
+    let base = kind % 11;
+    let c = if base == 6 {
+        row(&EDGES, wild, i, x, s)
     } else {
-        whole(kind, x, s)
+        whole(base, wild, x, s)
     };
-    if kind == 5 {
-        return joined(c, x, s, list);
+    if base == 5 {
+        return joined(c, wild, x, s, list);
     }
     let run = single(c, x, s, list);
     run.good

@@ -6,6 +6,7 @@ mod drawn;
 mod naive;
 mod named;
 mod single;
+mod wild;
 
 use draws::draw;
 use draws::number;
@@ -15,7 +16,7 @@ use draws::report;
 // A case of a kind, by its number and a drawn one, over a buffer of bytes and a list. The buffer is drawn, but zero for the
 // named cases.
 fn one(kind: usize, i: usize, x: usize) -> bool {
-    let mut s = [0u8; 813];
+    let mut s = [0u8; packed::BYTES];
     let mut list = [0u32; 4400];
     if kind == 10 {
         return named::one(i, x, &mut s, &mut list);
@@ -23,8 +24,11 @@ fn one(kind: usize, i: usize, x: usize) -> bool {
     packed::fill(&mut s, x);
     match kind {
         7 => single::eight_bits(x, &mut s),
-        8 => single::drawn_hash(x, &mut s),
-        9 => drawn::every_length(i, x, &mut s, &mut list),
+        8 => single::drawn_hash(0, x, &mut s),
+        9 => drawn::every_length(0, i, x, &mut s, &mut list),
+        18 => drawn::free_bits(i, x, &mut s, &mut list),
+        19 => single::drawn_hash(1, x, &mut s),
+        20 => drawn::every_length(1, i, x, &mut s, &mut list),
         _ => drawn::one(kind, i, x, &mut s, &mut list),
     }
 }
@@ -33,7 +37,7 @@ fn one(kind: usize, i: usize, x: usize) -> bool {
 fn many(names: &[u8], counts: &[usize], kind: usize) -> usize {
     let count = report::kind_line(names, counts, kind);
     let mut wrong: usize = 0;
-    let mut x = 88172645463325252 + kind % 16;
+    let mut x = 88172645463325252 + kind % 32;
     let mut i: usize = 0;
     while i < count {
         x = draw::next(x);
@@ -45,7 +49,7 @@ fn many(names: &[u8], counts: &[usize], kind: usize) -> usize {
 }
 
 // The kinds: their names, and where each one's name ends and how many cases it has.
-const NAMES: [u8; 352] = *b"\
+const NAMES: [u8; 672] = *b"\
     plain, whole                    \
     hash, whole                     \
     skip, whole                     \
@@ -56,9 +60,19 @@ const NAMES: [u8; 352] = *b"\
     eight bits                      \
     H                               \
     each length, exact scratch      \
-    named                           ";
+    named                           \
+    plain, wild bits                \
+    hash, wild bits                 \
+    skip, wild bits                 \
+    wide, wild bits                 \
+    tail, wild bits                 \
+    twelve calls, wild bits         \
+    refusals, wild bits             \
+    bits that do not matter         \
+    H, wild bits                    \
+    each length, wild bits          ";
 
-const COUNTS: [usize; 22] = [
+const COUNTS: [usize; 42] = [
     13,
     30000,
     12,
@@ -80,13 +94,33 @@ const COUNTS: [usize; 22] = [
     27,
     drawn::LENGTHS,
     6,
-    105,
+    named::CASES,
+    17,
+    10000,
+    16,
+    10000,
+    16,
+    10000,
+    16,
+    10000,
+    16,
+    10000,
+    24,
+    3000,
+    20,
+    drawn::ROWS,
+    24,
+    4000,
+    13,
+    20000,
+    23,
+    drawn::LENGTHS,
 ];
 
 fn main() {
     let mut wrong: usize = 0;
     let mut kind: usize = 0;
-    while kind < 11 {
+    while kind < 21 {
         wrong = number::plus(wrong, many(&NAMES, &COUNTS, kind));
         kind += 1;
     }

@@ -1,13 +1,13 @@
-// A naive search, bit by bit, and the table of refusals: the written rules of documents 01 and 02. The pattern lies at the
-// front of a buffer and the text from TEXT on.
+// A naive search, bit by bit, and the table of refusals: the written rules of documents 01 and 02. The pattern lies at
+// the front of a buffer, the text from TEXT on, and the pattern's second run from FIXED on.
 use crate::call::Call;
 use draws::cells::get32;
 use draws::number::ceiling;
 use draws::number::minus;
 use draws::number::plus;
 use draws::number::small;
+use draws::packed::FIXED_BIT;
 use draws::packed::TEXT_BIT;
-use draws::packed::agree;
 use draws::packed::bit;
 
 // What a call comes to: the number of its refusal, or 0; steps, occurrences written and the mark; and how it stopped: 0
@@ -42,13 +42,13 @@ pub(crate) fn unfit(way: usize, m: usize) -> bool {
     (m < SHORTEST[way % 5]) | (LONGEST[way % 5] < m)
 }
 
-// How many cells of scratch a method takes for a pattern of m bits: a byte of a row to a cell, eight rows and their masks; an
-// entry for each value of a byte; these and a link for each index; two words for each bit of a window of 64 places; two words.
-// The remainders only keep a product of any m from growing too large.
+// How many cells of scratch a method takes for a pattern of m bits: a byte of a row to a cell, eight rows and their
+// masks; two entries for each value of a byte; one for each and a link for each index; two words for each bit of a
+// window of 64 places; two words. The remainders only keep a product of any m from growing too large.
 pub(crate) fn figure(way: usize, m: usize) -> usize {
     match way {
         0 => ceiling(plus(m, 7)) % 65536 * 16,
-        1 => 256,
+        1 => 512,
         2 => plus(256, m),
         3 => plus(63, m) % 65536 * 2,
         _ => 2,
@@ -68,6 +68,9 @@ pub(crate) fn refusal(c: Call) -> usize {
     if unfit(c.way, c.m) {
         why = 5;
     }
+    if c.fixed < ceiling(c.m) {
+        why = 17;
+    }
     if c.pattern < ceiling(c.m) {
         why = 4;
     }
@@ -83,13 +86,30 @@ pub(crate) fn refusal(c: Call) -> usize {
     why
 }
 
+// Whether the bit b agrees with bit j of the pattern: it equals that bit, or that bit is wild.
+fn agrees(s: &[u8], j: usize, b: u8) -> bool {
+    (bit(s, j) == b) | (bit(s, plus(FIXED_BIT, j)) == 0)
+}
+
+// Whether k bits from p on agree with those of the pattern from j on.
+fn shows(s: &[u8], j: usize, p: usize, k: usize) -> bool {
+    let mut o: usize = 0;
+    while o < k {
+        if !agrees(s, plus(j, o), bit(s, plus(p, o))) {
+            return false;
+        }
+        o += 1;
+    }
+    true
+}
+
 // The least d from `first` to m that meets H's condition: the pattern, moved by d, shows the eight bits from p on. The
 // first bits of the value may lie before the pattern.
 pub(crate) fn least(s: &[u8], m: usize, p: usize, first: usize) -> usize {
     let mut d = first;
     while d < m {
         let before = minus(plus(d, 8), m);
-        if agree(s, minus(m, plus(d, 8)), plus(p, before), minus(8, before)) {
+        if shows(s, minus(m, plus(d, 8)), plus(p, before), minus(8, before)) {
             return d;
         }
         d += 1;
@@ -97,11 +117,11 @@ pub(crate) fn least(s: &[u8], m: usize, p: usize, first: usize) -> usize {
     m
 }
 
-// One more than the greatest index of the bit b in the pattern, or 0.
+// One more than the greatest index of the pattern whose bit is wild or equals b, or 0.
 fn last_index(s: &[u8], m: usize, b: u8) -> usize {
     let mut k = m;
     while 0 < k {
-        if bit(s, k - 1) == b {
+        if agrees(s, k - 1, b) {
             return k;
         }
         k -= 1;
@@ -132,12 +152,12 @@ fn next_wide(s: &[u8], n: usize, m: usize, at: usize) -> usize {
     )
 }
 
-// The greatest length r below m such that the pattern's first r bits equal the window's last r bits, those before `end`.
-// Length 0 always is one.
+// The greatest length r below m such that the window's last r bits, those before `end`, agree with the pattern's first r
+// bits. Length 0 always is one.
 fn prefix_length(s: &[u8], m: usize, end: usize) -> usize {
     let mut r = minus(m, 1);
     while 0 < r {
-        if agree(s, 0, minus(end, r), r) {
+        if shows(s, 0, minus(end, r), r) {
             return r;
         }
         r -= 1;
@@ -176,7 +196,7 @@ fn begun(mut run: Run, c: Call, s: &[u8], at: usize) -> Run {
 
 // A place is decided. An occurrence is written, unless the list is full: the step that this cuts is not counted.
 fn decided(mut run: Run, c: Call, s: &[u8], list: &[u32], at: usize) -> Run {
-    let hit = agree(s, plus(TEXT_BIT, at), 0, c.m);
+    let hit = shows(s, 0, plus(TEXT_BIT, at), c.m);
     if hit & (run.hits == c.room) {
         run.stop = 1;
         run.steps = minus(run.steps, 1);

@@ -6,6 +6,7 @@ use crate::call::SCRATCH;
 use crate::drawn::pattern_length;
 use crate::drawn::repeat;
 use crate::naive;
+use crate::wild::second_run;
 use bits::Place;
 use bits::eight;
 use bits::eight::Eight;
@@ -17,6 +18,8 @@ use draws::number::minus;
 use draws::number::plus;
 use draws::number::small;
 use draws::packed;
+use draws::packed::BYTES;
+use draws::packed::FIXED;
 use draws::packed::TEXT;
 use draws::packed::TEXT_BIT;
 use search::hash_value;
@@ -28,12 +31,13 @@ use search::scratch_cells::CellsAnswer;
 const COUNTS: [usize; 4] = [1073741820, 9, 0, 101];
 
 // Eight bits of n in so many bytes, from p on: they lie inside where a pattern of eight bits may have the mark p + 1.
-fn eight_from(n: usize, a: usize, p: usize, s: &mut [u8; 813]) -> bool {
+fn eight_from(n: usize, a: usize, p: usize, s: &mut [u8; BYTES]) -> bool {
     let why = naive::refusal(Call {
         n: n,
         text: a,
         m: 8,
         pattern: 1,
+        fixed: 1,
         way: 0,
         mark: plus(p, 1),
         budget: 0,
@@ -61,7 +65,7 @@ fn drawn_place(x: usize, bits: usize) -> usize {
     }
 }
 
-pub(crate) fn eight_bits(x: usize, s: &mut [u8; 813]) -> bool {
+pub(crate) fn eight_bits(x: usize, s: &mut [u8; BYTES]) -> bool {
     let n = choose(&COUNTS, draw(x, 0, 50), x, 1);
     let short = least_of(n, 100);
     let a = minus(plus(ceiling(short), draw(x, 5, 4)), 1);
@@ -75,6 +79,7 @@ pub(crate) fn cells_told(c: Call) -> bool {
         text: 0,
         m: c.m,
         pattern: ceiling(c.m),
+        fixed: ceiling(c.m),
         way: c.way,
         mark: 0,
         budget: 0,
@@ -88,31 +93,40 @@ pub(crate) fn cells_told(c: Call) -> bool {
     }
 }
 
-// H of the m bits of a pattern in b bytes at the front, and the value at the text's.
-pub(crate) fn hash(s: &[u8], m: usize, b: usize) -> bool {
+// H of the m bits of a pattern in b bytes at the front, with f bytes of its second run, and the value at the text's.
+pub(crate) fn hash(s: &[u8], m: usize, b: usize, f: usize) -> bool {
     let why = naive::refusal(Call {
         n: 0,
         text: 0,
         m: m,
         pattern: b,
+        fixed: f,
         way: 1,
         mark: 0,
         budget: 0,
         room: 0,
         scratch: SCRATCH,
     });
-    let got = hash_value::hash_value(packed::part(s, 0, b), m as u64, packed::get8(s, TEXT));
+    let got = hash_value::hash_value(
+        packed::part(s, 0, b),
+        packed::part(s, FIXED, f),
+        m as u64,
+        packed::get8(s, TEXT),
+    );
     match got {
         HashAnswer::Value(d) => (why == 0) & (d == small(naive::least(s, m, TEXT_BIT, 0))),
         HashAnswer::Refused(r) => r.number() == small(why),
     }
 }
 
-// The value is drawn, or a part of the pattern.
-pub(crate) fn drawn_hash(x: usize, s: &mut [u8; 813]) -> bool {
+// The value is drawn, or a part of the pattern. Pattern and second run have up to two bytes more than they need, or one
+// too few; the second run has enough where no bit is wild.
+pub(crate) fn drawn_hash(wild: usize, x: usize, s: &mut [u8; BYTES]) -> bool {
     let m = minus(plus(pattern_length(x, 1), draw(x, 3, 4)), 1);
     repeat(s, 0, m, draw(x, 4, 12));
     repeat(s, TEXT_BIT, 8, draw(x, 5, 3));
     packed::copy(s, draw(x, 6, plus(m, 1)), TEXT_BIT, draw(x, 7, 2) % 2 * 8);
-    hash(s, m, minus(plus(ceiling(m), draw(x, 8, 4)), 1))
+    second_run(wild, s, m, x);
+    let f = minus(plus(ceiling(m), draw(x, 9, plus(wild % 2, 3))), wild);
+    hash(s, m, minus(plus(ceiling(m), draw(x, 8, 4)), 1), f)
 }

@@ -27,15 +27,11 @@ use Rattle.wide.proofs.WideTables.{bitFor, half-weight, passes-high, pa
 -- The bits that enter
 
 -- of the eight window bits from q on, those from m on are set in y, and no other
-pub record Padding (m q y : ℕ) : Type 0 where
+record Padding (m q y : ℕ) : Type 0 where
   pub small : y < 2 ^ 8
   pub bits : (j : ℕ) → j < 8 → bitOf 8 y j ≡ bitFor (leb m (q + j))
 
-pub padding-none : (m q : ℕ) → q + 8 ≤ m → Padding m q 0
-padding-none m q h =
-    record { small = omega arith; bits = λ j l. weight-zero (7 - j) ∙ sym (ap bitFor (lt-leb m (q + j) (omega arith))) }
-
-pub padding-some : (m q : ℕ) → q ≤ m → Padding m q (255 / 2 ^ (m - q))
+padding-some : (m q : ℕ) → q ≤ m → Padding m q (255 / 2 ^ (m - q))
 padding-some m q h = record { small = omega (arith, shr-le 255 (m - q)); bits = λ j l. weight-shr 255 (m - q) (7 - j) ∙ go j l (decLe m (q + j)) }
   where
     go : (j : ℕ) → j < 8 → Dec (m ≤ q + j) → weight 255 (m - q + (7 - j)) ≡ bitFor (leb m (q + j))
@@ -61,49 +57,76 @@ weight-not (suc k) x (suc i) h l =
     half : (p r : ℕ) → p ≡ r * 2 → x < p → (p - 1 - x) / 2 ≡ r - 1 - x / 2
     half p r e u = omega arith
 
+-- Of the eight window bits from q on, those at wild bits of the pattern and those from m on are set in y, and no other.
+pub record Free (w : Pattern) (q y : ℕ) : Type 0 where
+  pub small : y < 2 ^ 8
+  pub inside : (j : ℕ) → j < 8 → q + j < w .count → bitOf 8 y j ≡ 1 - bitAt (w .fixed) (q + j)
+  pub past : (j : ℕ) → j < 8 → w .count ≤ q + j → bitOf 8 y j ≡ 1
+
+-- a byte of either run from q on
+byte-bits : (run : List ℕ) (q k j : ℕ) → q % 8 ≡ 0 → k ≡ q / 8 → j < 8 → bitOf 8 (getD run k 0) j ≡ bitAt run (q + j)
+byte-bits run q k j whole held l =
+    let there : k * 8 ≡ q = omega arith in
+    sym (ap (λ (n : ℕ). bitAt run (n + j)) (sym there) ∙ bit-in-byte run k l)
+
+module _ (w : Pattern) (q k : ℕ) (whole : q % 8 ≡ 0) (held : k ≡ q / 8) (small : getD (w .fixed) k 0 < 256) where
+  wild-bit : (j : ℕ) → j < 8 → bitOf 8 (255 - getD (w .fixed) k 0) j ≡ 1 - bitAt (w .fixed) (q + j)
+  wild-bit j l =
+      weight-not 8 (getD (w .fixed) k 0) (7 - j) small (omega arith)
+      ∙ ap (λ (y : ℕ). 1 - y) (byte-bits (w .fixed) q k j whole held l)
+
+  pub free-none : q + 8 ≤ w .count → Free w q (255 - getD (w .fixed) k 0)
+  free-none h = record { small = omega arith; inside = λ j l u. wild-bit j l; past = λ j l u. absurd (omega arith) }
+
+  pub free-some : q ≤ w .count → Free w q (bitOr (255 - getD (w .fixed) k 0) (255 / 2 ^ (w .count - q)))
+  free-some h =
+      let pad = padding-some (w .count) q h in
+      record {
+        small = or-lt 8 (255 - getD (w .fixed) k 0) (255 / 2 ^ (w .count - q)) (omega arith) (pad .small);
+        inside = λ j l u.
+            weight-or (255 - getD (w .fixed) k 0) (255 / 2 ^ (w .count - q)) (7 - j)
+            ∙ ap₂ max (wild-bit j l) (pad .bits j l ∙ ap bitFor (lt-leb (w .count) (q + j) u))
+            ∙ omega arith;
+        past = λ j l u.
+            weight-or (255 - getD (w .fixed) k 0) (255 / 2 ^ (w .count - q)) (7 - j)
+            ∙ ap₂ max (wild-bit j l) (pad .bits j l ∙ ap bitFor (le-leb _ _ u))
+            ∙ omega arith;
+      }
+
 module _ (w : Pattern) where
-  -- bits of the pattern that agree with c, and after the pattern ones
-  enters-padded : (c q v pad : ℕ) → v < 2 ^ 8 → Padding (w .count) q pad
-      → ((j : ℕ) → j < 8 → q + j < w .count → bitOf 8 v j ≡ bitFor (agrees w (q + j) c)) → Enters w c q (bitOr v pad)
-  enters-padded c q v pad h p f = record { small = or-lt 8 v pad h (p .small); flags = λ j l. weight-or v pad (7 - j) ∙ go j l (decLe (w .count) (q + j)) }
+  -- bits of the pattern that agree with c, its wild bits, and after the pattern ones
+  enters-free : (c q v free : ℕ) → v < 2 ^ 8 → Free w q free
+      → ((j : ℕ) → j < 8 → q + j < w .count → max (bitOf 8 v j) (1 - bitAt (w .fixed) (q + j)) ≡ bitFor (agrees w (q + j) c))
+      → Enters w c q (bitOr v free)
+  enters-free c q v free h p f = record { small = or-lt 8 v free h (p .small); flags = λ j l. weight-or v free (7 - j) ∙ go j l (decLe (w .count) (q + j)) }
     where
       high : (x : ℕ) → x < 2 → max x 1 ≡ 1
       high x l = omega arith
 
-      low : (x : ℕ) → max x 0 ≡ x
-      low x = omega arith
-
-      go : (j : ℕ) → j < 8 → Dec (w .count ≤ q + j) → max (bitOf 8 v j) (bitOf 8 pad j) ≡ bitFor (passes w c (q + j) 0)
+      go : (j : ℕ) → j < 8 → Dec (w .count ≤ q + j) → max (bitOf 8 v j) (bitOf 8 free j) ≡ bitFor (passes w c (q + j) 0)
       go j l (yes u) =
-          ap (max (bitOf 8 v j)) (p .bits j l ∙ ap bitFor (le-leb _ _ u))
+          ap (max (bitOf 8 v j)) (p .past j l u)
           ∙ high (bitOf 8 v j) (omega arith)
           ∙ sym (ap bitFor (passes-high w c (q + j) 0 (omega arith)))
       go j l (no u) =
-          ap (max (bitOf 8 v j)) (p .bits j l ∙ ap bitFor (lt-leb (w .count) (q + j) (omega arith)))
-          ∙ low (bitOf 8 v j)
+          ap (max (bitOf 8 v j)) (p .inside j l (omega arith))
           ∙ f j l (omega arith)
           ∙ sym (ap bitFor (passes-first w c (q + j) (omega arith)))
 
-  -- the pattern's byte from q on, byte number k, and what lies after the pattern
-  module _ (q pad : ℕ) (p : Padding (w .count) q pad) (whole : q % 8 ≡ 0) (k : ℕ) (held : k ≡ q / 8) (small : getD (w .bytes) k 0 < 256) where
-    b : ℕ
-    b = getD (w .bytes) k 0
+  -- the pattern's byte from q on, byte number k, its wild bits and what lies after the pattern
+  module _ (q free : ℕ) (p : Free w q free) (whole : q % 8 ≡ 0) (k : ℕ) (held : k ≡ q / 8) (small : getD (w .bytes) k 0 < 256) where
+    pub enters-one : Enters w 1 q (bitOr (getD (w .bytes) k 0) free)
+    enters-one =
+        enters-free 1 q (getD (w .bytes) k 0) free small p
+        (λ j l u. ap (λ (y : ℕ). max y (1 - bitAt (w .fixed) (q + j))) (byte-bits (w .bytes) q k j whole held l) ∙ sym (agrees-one w (q + j)))
 
-    bits : (j : ℕ) → j < 8 → bitOf 8 b j ≡ bitAt (w .bytes) (q + j)
-    unfolding b
-    bits j l =
-        let there : k * 8 ≡ q = omega arith in
-        sym (ap (λ (n : ℕ). bitAt (w .bytes) (n + j)) (sym there) ∙ bit-in-byte (w .bytes) k l)
-
-    pub enters-one : Enters w 1 q (bitOr (getD (w .bytes) k 0) pad)
-    unfolding b
-    enters-one = enters-padded 1 q b pad small p (λ j l u. bits j l ∙ agrees-one w (q + j))
-
-    pub enters-zero : Enters w 0 q (bitOr (255 - getD (w .bytes) k 0) pad)
-    unfolding b
+    pub enters-zero : Enters w 0 q (bitOr (255 - getD (w .bytes) k 0) free)
     enters-zero =
-        enters-padded 0 q (255 - b) pad (omega arith) p
-        (λ j l u. weight-not 8 b (7 - j) small (omega arith) ∙ ap (λ (y : ℕ). 1 - y) (bits j l) ∙ agrees-zero w (q + j))
+        enters-free 0 q (255 - getD (w .bytes) k 0) free (omega arith) p
+        (λ j l u.
+        ap (λ (y : ℕ). max y (1 - bitAt (w .fixed) (q + j)))
+        (weight-not 8 (getD (w .bytes) k 0) (7 - j) small (omega arith) ∙ ap (λ (y : ℕ). 1 - y) (byte-bits (w .bytes) q k j whole held l))
+        ∙ sym (agrees-zero w (q + j)))
 
   -- after the pattern all are ones
   pub enters-past : (c q : ℕ) → w .count ≤ q → Enters w c q 255

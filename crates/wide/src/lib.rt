@@ -9,7 +9,7 @@ use bits::load;
 use matcher::Advance;
 use matcher::Found;
 use matcher::compare;
-use matcher::compare::Head;
+use matcher::compare::Known;
 use rules::Method;
 ghost use mathlib.Core.Path.{_≡_};
 ghost use Prim.Native.Nat.{_+_, _*_, _^_, _≤_, _<_};
@@ -20,7 +20,7 @@ ghost use Rattle.rules.specs.Step.{next};
 ghost use Rattle.rules.specs.Scratch.{scratchCells};
 ghost use Rattle.matcher.specs.Tables.{Prepared};
 ghost use Rattle.wide.specs.Flags.{StartsByte, Enters, Entered, Moves, within, second, Applies, Flagged, Scanned, Marked};
-ghost use Rattle.matcher.specs.Progress.{textOf, patternOf, HeadOf, GoodPattern, Ready, Stepped, Advanced};
+ghost use Rattle.matcher.specs.Progress.{textOf, patternOf, textIn, patternIn, HeadOf, GoodPattern, Ready, Stepped, Advanced};
 
 // Every flag stands.
 const ALL: u64 = 18446744073709551615;
@@ -31,11 +31,11 @@ struct Pair {
     one: u64,
 }
 
-// Flag 0 of each of the eight window bits from q on, the first bit highest. A bit of the pattern leaves it standing where
-// the window bit is the same; after the pattern every bit does.
-fn entering(pattern: &[u8], m: u32, q: u32) -> Pair
-    requires { ⌜ (bytesFor m ≤ length (now pattern)) × StartsByte q × (q ≤ 4096) ⌝ }
-    ensures { λ r. ⌜ Enters (patternOf (now (pattern .entry)) m) 0 q (r .zero) × Enters (patternOf (now (pattern .entry)) m) 1 q (r .one) ⌝ }
+// Flag 0 of each of the eight window bits from q on, the first bit highest. A bit of the pattern leaves it standing where it
+// is wild or the window bit is the same; after the pattern every bit does.
+fn entering(pattern: &[u8], fixed: &[u8], m: u32, q: u32) -> Pair
+    requires { ⌜ (bytesFor m ≤ length (now pattern)) × (bytesFor m ≤ length (now fixed)) × StartsByte q × (q ≤ 4096) ⌝ }
+    ensures { λ r. ⌜ Enters (patternOf (now (pattern .entry)) (now (fixed .entry)) m) 0 q (r .zero) × Enters (patternOf (now (pattern .entry)) (now (fixed .entry)) m) 1 q (r .one) ⌝ }
 {
     if m <= q {
         return Pair {
@@ -45,13 +45,13 @@ fn entering(pattern: &[u8], m: u32, q: u32) -> Pair
     }
     let at = Place(q).byte().0;
     let b = pattern[at] as u64;
-    let mut pad = 0u64;
+    let mut free = 255 - fixed[at] as u64;
     if m < q + 8 {
-        pad = 255 >> (m - q);
+        free = free | (255 >> (m - q));
     }
     Pair {
-        zero: (255 - b) | pad,
-        one: b | pad,
+        zero: (255 - b) | free,
+        one: b | free,
     }
 }
 
@@ -74,16 +74,16 @@ fn enter(q: u32, k: usize, zero: u64, one: u64, y: u64, x: u64, cells: &mut [u64
 }
 
 // The table, eight window bits at a time. The last ones, fewer than eight, lie after the pattern.
-pub fn prepare(pattern: &[u8], m: u32, cells: &mut [u64])
-    requires { ⌜ GoodPattern Method.Wide (patternOf (now pattern) m) ⌝ }
+pub fn prepare(pattern: &[u8], fixed: &[u8], m: u32, cells: &mut [u64])
+    requires { ⌜ GoodPattern Method.Wide (patternOf (now pattern) (now fixed) m) ⌝ }
     requires { ⌜ scratchCells Method.Wide m ≤ length (now cells) ⌝ }
-    ensures { λ _. ⌜ Prepared Method.Wide (patternOf (now (pattern .entry)) m) (now (cells .entry)) (now (cells .exit)) ⌝ }
+    ensures { λ _. ⌜ Prepared Method.Wide (patternOf (now (pattern .entry)) (now (fixed .entry)) m) (now (cells .entry)) (now (cells .exit)) ⌝ }
 {
     let mut zero = ALL;
     let mut one = ALL;
     let mut q = 0u32;
     while q + 8 <= m + 63 {
-        let new = entering(pattern, m, q);
+        let new = entering(pattern, fixed, m, q);
         enter(q, 8, zero, one, new.zero, new.one, cells);
         zero = (zero << 8) | new.zero;
         one = (one << 8) | new.one;
@@ -206,21 +206,20 @@ fn next_mark(text: &[u8], n: u32, m: u32, zero: u32, one: u32, s: Place) -> Plac
 // Takes the flags lowest first, and writes the places at which the pattern stands.
 fn settle(
     text: &[u8],
-    n: u32,
     pattern: &[u8],
-    m: u32,
-    h: Head,
+    fixed: &[u8],
+    known: Known,
     s: Place,
     to: Place,
     flags: u64,
     list: &mut [u32],
     had: usize,
 ) -> Found
-    requires { ⌜ (0 < m) × (m ≤ 2048) × (n ≤ 2 ^ 30) × (s .0 < places (textOf (now text) n) (patternOf (now pattern) m)) × (had ≤ length (now list)) ⌝ }
-    requires { ⌜ HeadOf (patternOf (now pattern) m) (h .bits) (h .cut) ⌝ }
-    requires { ⌜ Flagged (textOf (now text) n) (patternOf (now pattern) m) (s .0) flags ⌝ }
-    requires { ⌜ to .0 ≡ next Method.Wide (textOf (now text) n) (patternOf (now pattern) m) (s .0) ⌝ }
-    ensures { λ r. ⌜ Stepped Method.Wide (textOf (now (text .entry)) n) (patternOf (now (pattern .entry)) m) (s .0) (now (list .entry)) had (r .at .0) (r .hits) (r .full) (now (list .exit)) ⌝ }
+    requires { ⌜ (0 < known .m) × (known .m ≤ 2048) × (known .n ≤ 2 ^ 30) × (s .0 < places (textIn (now text) known) (patternIn (now pattern) (now fixed) known)) × (had ≤ length (now list)) ⌝ }
+    requires { ⌜ HeadOf (patternIn (now pattern) (now fixed) known) (known .head) (known .mask) ⌝ }
+    requires { ⌜ Flagged (textIn (now text) known) (patternIn (now pattern) (now fixed) known) (s .0) flags ⌝ }
+    requires { ⌜ to .0 ≡ next Method.Wide (textIn (now text) known) (patternIn (now pattern) (now fixed) known) (s .0) ⌝ }
+    ensures { λ r. ⌜ Stepped Method.Wide (textIn (now (text .entry)) known) (patternIn (now (pattern .entry)) (now (fixed .entry)) known) (s .0) (now (list .entry)) had (r .at .0) (r .hits) (r .full) (now (list .exit)) ⌝ }
 {
     let mut at = s.0;
     let mut f = flags;
@@ -230,7 +229,7 @@ fn settle(
         let p = at + i;
         f = (f >> i) >> 1;
         at = p + 1;
-        if compare::same(text, pattern, m, h, Place(p)) {
+        if compare::same(text, pattern, fixed, known, Place(p)) {
             if list.len() <= hits {
                 return Found {
                     at: Place(p),
@@ -252,69 +251,72 @@ fn settle(
 // One step: the flags of its 64 places, and those that stand settled by comparison.
 pub fn step(
     text: &[u8],
-    n: u32,
     pattern: &[u8],
-    m: u32,
-    h: Head,
+    fixed: &[u8],
+    known: Known,
     cells: &[u64],
     s: Place,
     list: &mut [u32],
     had: usize,
 ) -> Found
-    requires { ⌜ Ready Method.Wide (textOf (now text) n) (patternOf (now pattern) m) (now cells) ⌝ }
-    requires { ⌜ HeadOf (patternOf (now pattern) m) (h .bits) (h .cut) ⌝ }
-    requires { ⌜ (s .0 < places (textOf (now text) n) (patternOf (now pattern) m)) × (had ≤ length (now list)) ⌝ }
-    ensures { λ r. ⌜ Stepped Method.Wide (textOf (now (text .entry)) n) (patternOf (now (pattern .entry)) m) (s .0) (now (list .entry)) had (r .at .0) (r .hits) (r .full) (now (list .exit)) ⌝ }
+    requires { ⌜ Ready Method.Wide (textIn (now text) known) (patternIn (now pattern) (now fixed) known) (now cells) ⌝ }
+    requires { ⌜ HeadOf (patternIn (now pattern) (now fixed) known) (known .head) (known .mask) ⌝ }
+    requires { ⌜ (s .0 < places (textIn (now text) known) (patternIn (now pattern) (now fixed) known)) × (had ≤ length (now list)) ⌝ }
+    ensures { λ r. ⌜ Stepped Method.Wide (textIn (now (text .entry)) known) (patternIn (now (pattern .entry)) (now (fixed .entry)) known) (s .0) (now (list .entry)) had (r .at .0) (r .hits) (r .full) (now (list .exit)) ⌝ }
 {
-    let zero = move_of(m, cells, 0);
-    let one = move_of(m, cells, 1);
-    let to = next_mark(text, n, m, zero, one, s);
-    let flags = scan(text, n, m, cells, s);
-    settle(text, n, pattern, m, h, s, to, flags, list, had)
+    let zero = move_of(known.m, cells, 0);
+    let one = move_of(known.m, cells, 1);
+    let to = next_mark(text, known.n, known.m, zero, one, s);
+    let flags = scan(text, known.n, known.m, cells, s);
+    settle(text, pattern, fixed, known, s, to, flags, list, had)
 }
 
 // Many steps with their list, until the budget is used up, an occurrence finds no free cell, or no place is left. Both moves are
-// made once for all of them.
+// made once for all of them, and a step whose flags all fell has nothing to settle.
 pub fn advance(
     text: &[u8],
-    n: u32,
     pattern: &[u8],
-    m: u32,
-    h: Head,
+    fixed: &[u8],
+    known: Known,
     cells: &[u64],
     s: Place,
     budget: u32,
     list: &mut [u32],
     had: usize,
 ) -> Advance
-    requires { ⌜ Ready Method.Wide (textOf (now text) n) (patternOf (now pattern) m) (now cells) ⌝ }
-    requires { ⌜ HeadOf (patternOf (now pattern) m) (h .bits) (h .cut) ⌝ }
-    requires { ⌜ (s .0 ≤ places (textOf (now text) n) (patternOf (now pattern) m)) × (had ≤ length (now list)) ⌝ }
-    ensures { λ r. ⌜ Advanced Method.Wide (textOf (now (text .entry)) n) (patternOf (now (pattern .entry)) m) (s .0) budget (now (list .entry)) had (r .at .0) (r .steps) (r .hits) (r .full) (now (list .exit)) ⌝ }
+    requires { ⌜ Ready Method.Wide (textIn (now text) known) (patternIn (now pattern) (now fixed) known) (now cells) ⌝ }
+    requires { ⌜ HeadOf (patternIn (now pattern) (now fixed) known) (known .head) (known .mask) ⌝ }
+    requires { ⌜ (s .0 ≤ places (textIn (now text) known) (patternIn (now pattern) (now fixed) known)) × (had ≤ length (now list)) ⌝ }
+    ensures { λ r. ⌜ Advanced Method.Wide (textIn (now (text .entry)) known) (patternIn (now (pattern .entry)) (now (fixed .entry)) known) (s .0) budget (now (list .entry)) had (r .at .0) (r .steps) (r .hits) (r .full) (now (list .exit)) ⌝ }
 {
-    let end = n - m + 1;
-    let zero = move_of(m, cells, 0);
-    let one = move_of(m, cells, 1);
+    let end = known.n - known.m + 1;
+    let zero = move_of(known.m, cells, 0);
+    let one = move_of(known.m, cells, 1);
     let mut at = s.0;
     let mut steps = 0u32;
     let mut hits = had;
     while (at < end) & (steps < budget) {
         let from = Place(at);
-        let to = next_mark(text, n, m, zero, one, from);
-        let flags = scan(text, n, m, cells, from);
-        let found = settle(text, n, pattern, m, h, from, to, flags, list, hits);
-        let there = found.at;
-        hits = found.hits;
-        if found.full {
-            return Advance {
-                at: there,
-                steps: steps,
-                hits: hits,
-                full: true,
-            };
+        let to = next_mark(text, known.n, known.m, zero, one, from);
+        let flags = scan(text, known.n, known.m, cells, from);
+        if flags == 0 {
+            steps += 1;
+            at = to.0;
+        } else {
+            let found = settle(text, pattern, fixed, known, from, to, flags, list, hits);
+            let there = found.at;
+            hits = found.hits;
+            if found.full {
+                return Advance {
+                    at: there,
+                    steps: steps,
+                    hits: hits,
+                    full: true,
+                };
+            }
+            steps += 1;
+            at = there.0;
         }
-        steps += 1;
-        at = there.0;
     }
     Advance {
         at: Place(at),

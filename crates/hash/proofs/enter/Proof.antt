@@ -15,17 +15,17 @@ use Rattle.hash.proofs.enter.Statement.{statement}
 use Rattle.hash.proofs.enter.Tie as tie
 
 abbrev Inv-loop : tie.InvT-loop
-Inv-loop pattern m d k cells₀ x₀ r₀ cells x r = (r ≤ k) × (x ≡ shifted pattern (m - 8 - d) r) × Entered (patternOf pattern m) cells₀ cells (d - r)
+Inv-loop pattern fixed m d k cells₀ x₀ r₀ cells x r = (r ≤ k) × (x ≡ shifted pattern (m - 8 - d) r) × Entered (patternOf pattern fixed m) cells₀ cells (d - r)
 
 abbrev μ-loop : tie.MeasureT-loop
-μ-loop pattern m d k cells₀ x₀ r₀ cells x r = k - r
+μ-loop pattern fixed m d k cells₀ x₀ r₀ cells x r = k - r
 
 -- the first eight bits of the shifted load
 value : (c : tie.In-loop Inv-loop μ-loop)
-    → let a = c .before .before .before .before .before .args in
+    → let a = c .before .before .before .before .before .before .args in
     c .before .loop .x / 2 ^ 56 ≡ bitsAt (now (a .pattern)) (a .m - 8 - (a .d - c .before .loop .r)) 8
 value c =
-    let a = c .before .before .before .before .before .args in
+    let a = c .before .before .before .before .before .before .args in
     let l = c .before .loop in
     let there : a .m - 8 - a .d + l .r ≡ a .m - 8 - (a .d - l .r) = omega arith in
     ap (λ (y : ℕ). y / 2 ^ 56) (l .inv .1)
@@ -34,24 +34,24 @@ value c =
 
 value-lt : (c : tie.In-loop Inv-loop μ-loop) → c .before .loop .x / 2 ^ 56 < 256
 value-lt c =
-    let a = c .before .before .before .before .before .args in
+    let a = c .before .before .before .before .before .before .args in
     rw (value c) (bits-lt (now (a .pattern)) (a .m - 8 - (a .d - c .before .loop .r)) 8)
-
-sub-t8 : tie.Need-sub-t8 Inv-loop μ-loop
-sub-t8 c = search needs
 
 sub-t9 : tie.Need-sub-t9 Inv-loop μ-loop
 sub-t9 c = search needs
+
+sub-t10 : tie.Need-sub-t10 Inv-loop μ-loop
+sub-t10 c = search needs
 
 word-at-requires : tie.Need-word-at-requires Inv-loop μ-loop
 word-at-requires c κs = search needs
 
 loop-holds : tie.Need-loop-holds Inv-loop μ-loop
 loop-holds c =
-    let s = c .before .before .before in
+    let s = c .before .before .before .before in
     let a = s .args in
     let all : a .d - 0 ≡ a .d = omega arith in
-    (omega arith, c .word-at .ensures ∙ shifted-none (now (a .pattern)) (a .m - 8 - a .d), rw all (s .pre .1))
+    (omega arith, c .word-at .ensures ∙ shifted-none (now (a .pattern)) (a .m - 8 - a .d), rw all (s .pre .1 .1))
 
 sub-cells : tie.Need-sub-cells Inv-loop μ-loop
 sub-cells c = search needs
@@ -73,13 +73,13 @@ loop-less c = search needs
 
 loop-again : tie.Need-loop-again Inv-loop μ-loop
 loop-again c =
-    let s = c .before .before .before .before .before in
+    let s = c .before .before .before .before .before .before in
     let a = s .args in
     let l = c .before .loop in
     let less : a .d - (l .r + 1) ≡ a .d - l .r - 1 = omega arith in (
       omega arith,
       ap (λ (y : ℕ). (y * 2 ^ 1) % 2 ^ 64) (l .inv .1) ∙ shifted-more (now (a .pattern)) (a .m - 8 - a .d) (l .r) (omega arith),
-      rw less (entered-more (patternOf (now (a .pattern)) (a .m)) (now (a .cells)) (l .cells) (a .d - l .r) _ (l .inv .2) (omega arith) (omega arith) (omega arith) (value c)),
+      rw less (entered-more (patternOf (now (a .pattern)) (now (a .fixed)) (a .m)) (s .pre .1 .0) (now (a .cells)) (l .cells) (a .d - l .r) _ (l .inv .2) (omega arith) (omega arith) (omega arith) (value c)),
     )
 
 same-length : tie.Need-same-length Inv-loop μ-loop
@@ -87,7 +87,7 @@ same-length c = c .before .loop .inv .2 .size
 
 returns : tie.Need-returns Inv-loop μ-loop
 returns c =
-    let a = c .before .before .before .before .before .args in
+    let a = c .before .before .before .before .before .before .args in
     let l = c .before .loop in
     let all : l .r ≡ a .k = omega arith in
     rw all at (l .inv .2)
@@ -98,8 +98,8 @@ enter-spec =
     (tie.spec
     Inv-loop
     μ-loop
-    sub-t8
     sub-t9
+    sub-t10
     word-at-requires
     loop-holds
     sub-cells

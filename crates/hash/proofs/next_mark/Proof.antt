@@ -4,19 +4,19 @@ use borrow.Author.Needs.{needs}
 use mathlib.Core.Path.{sym, _∙_}
 use native.Mathlib.Omega.{arith}
 use denote.Ref.{now}
-use Rattle.matcher.specs.Progress.{textOf, patternOf}
+use Rattle.matcher.specs.Progress.{textIn, patternIn}
 use Rattle.hash.proofs.HashSteps.{CellAt, cell-at, eight-inside}
 use Rattle.hash.proofs.next_mark.Statement.{statement}
 use Rattle.hash.proofs.next_mark.Tie as tie
 
 -- what the cell holds
 cell : (c : tie.After-byte-inside)
-    → let a = c .before .before .before .before .args in
-    CellAt (textOf (now (a .text)) (a .n)) (patternOf (now (a .pattern)) (a .m)) (now (a .cells)) (a .s .0) (c .byte-inside .result)
+    → let a = c .before .before .before .before .before .before .args in
+    CellAt (textIn (now (a .text)) (a .known)) (patternIn (now (a .pattern)) (now (a .fixed)) (a .known)) (now (a .cells)) (a .s .0) (c .byte-inside .result)
 cell c =
-    let s = c .before .before .before .before in
+    let s = c .before .before .before .before .before .before in
     let a = s .args in
-    cell-at (textOf (now (a .text)) (a .n)) (patternOf (now (a .pattern)) (a .m)) (now (a .cells)) (s .pre .0) (a .s .0) _ (c .byte-inside .ensures)
+    cell-at (textIn (now (a .text)) (a .known)) (patternIn (now (a .pattern)) (now (a .fixed)) (a .known)) (now (a .cells)) (s .pre .0) (a .s .0) _ (c .byte-inside .ensures)
 
 sub-cut : tie.Need-sub-cut
 sub-cut c = search needs
@@ -26,9 +26,9 @@ add-cut c = search needs
 
 byte-inside-requires : tie.Need-byte-inside-requires
 byte-inside-requires c κs =
-    let s = c .before .before .before in
+    let s = c .before .before .before .before .before in
     let a = s .args in
-    eight-inside (textOf (now (a .text)) (a .n)) (patternOf (now (a .pattern)) (a .m)) (now (a .cells)) (s .pre .0) (a .s .0) (s .pre .1)
+    eight-inside (textIn (now (a .text)) (a .known)) (patternIn (now (a .pattern)) (now (a .fixed)) (a .known)) (now (a .cells)) (s .pre .0) (a .s .0) (s .pre .1)
 
 mul-far : tie.Need-mul-far
 mul-far c = omega (arith, cell c .small)
@@ -53,7 +53,7 @@ cut-requires c κs = search needs
 
 returns : tie.Need-returns
 returns c =
-    let k = cell (c .before .before) in
+    let k = cell (c .before .before .before) in
     c .cut .ensures ∙ sym (k .moves ∙ omega arith)
 
 pub next-mark-spec : {M : Type 1} → statement M

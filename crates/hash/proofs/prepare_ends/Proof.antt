@@ -16,18 +16,18 @@ use Rattle.hash.proofs.prepare_ends.Statement.{statement}
 use Rattle.hash.proofs.prepare_ends.Tie as tie
 
 abbrev Inv-loop : tie.InvT-loop
-Inv-loop pattern m cells₀ first size₀ k₀ cells size k = Ends (patternOf pattern m) cells₀ cells size k
+Inv-loop pattern fixed m cells₀ first size₀ k₀ cells size k = Ends (patternOf pattern fixed m) cells₀ cells size k
 
 abbrev μ-loop : tie.MeasureT-loop
-μ-loop pattern m cells₀ first size₀ k₀ cells size k = 8 - k
+μ-loop pattern fixed m cells₀ first size₀ k₀ cells size k = 8 - k
 
 -- room for the table and for a copy
 room : (c : tie.At-loop Inv-loop μ-loop) → (c .loop .size ≤ 128) × (256 ≤ length (c .loop .cells))
 room c =
-    let s = c .before .before .before .before in
+    let s = c .before .before .before .before .before in
     let a = s .args in
     let size : length (set (now (a .cells)) 0 (a .m)) ≡ length (now (a .cells)) = length-set (now (a .cells)) 0 (a .m) in (
-      ends-small (patternOf (now (a .pattern)) (a .m)) (long-enough _ (s .pre .0)) _ (omega arith) (c .loop .cells) (c .loop .size) (c .loop .k) (c .loop .inv),
+      ends-small (patternOf (now (a .pattern)) (now (a .fixed)) (a .m)) (s .pre .1 .0) (long-enough _ (s .pre .0)) _ (omega arith) (c .loop .cells) (c .loop .size) (c .loop .k) (c .loop .inv),
       omega (arith, c .loop .inv .same-size),
     )
 
@@ -37,19 +37,19 @@ value-lt : (c : tie.After-slice-known2 Inv-loop μ-loop)
 value-lt c =
     let b = c .before .before .before .before .before .before .byte-at in
     let k = c .before .before .before .before .before .loop .k in
-    let byte : b .result < 256 = rw (b .ensures) (bits-lt (now (c .before .before .before .before .before .before .before .before .before .args .pattern)) 0 8) in
+    let byte : b .result < 256 = rw (b .ensures) (bits-lt (now (c .before .before .before .before .before .before .before .before .before .before .args .pattern)) 0 8) in
     omega (arith, shr-le (b .result) (8 - k))
 
 -- what the last copy leaves
 made : (c : tie.After-slice-known3 Inv-loop μ-loop)
-    → let a = c .before .before .before .before .before .before .before .before .before .args in
-    Entered (patternOf (now (a .pattern)) (a .m)) (now (a .cells)) (c .before .before .double2 .last .0) (a .m - 8)
+    → let a = c .before .before .before .before .before .before .before .before .before .before .args in
+    Entered (patternOf (now (a .pattern)) (now (a .fixed)) (a .m)) (now (a .cells)) (c .before .before .double2 .last .0) (a .m - 8)
 made c =
-    let s = c .before .before .before .before .before .before .before .before .before in
+    let s = c .before .before .before .before .before .before .before .before .before .before in
     let a = s .args in
     let l = c .before .before .before .before .before .loop in
     rw (c .before .before .double2 .ensures)
-    (ends-made (patternOf (now (a .pattern)) (a .m)) (long-enough _ (s .pre .0)) (now (a .cells)) (s .pre .1) (l .cells) (l .size) (l .k) (l .inv)
+    (ends-made (patternOf (now (a .pattern)) (now (a .fixed)) (a .m)) (s .pre .1 .0) (long-enough _ (s .pre .0)) (now (a .cells)) (s .pre .1 .1) (l .cells) (l .size) (l .k) (l .inv)
     (omega (arith, l .inv .high)))
 
 byte-at-requires : tie.Need-byte-at-requires Inv-loop μ-loop
@@ -60,15 +60,15 @@ slice-write-cells c = search needs
 
 loop-holds : tie.Need-loop-holds Inv-loop μ-loop
 loop-holds c =
-    let s = c .before .before .before in
+    let s = c .before .before .before .before in
     let a = s .args in
-    ends-none (patternOf (now (a .pattern)) (a .m)) (now (a .cells)) (s .pre .1)
+    ends-none (patternOf (now (a .pattern)) (now (a .fixed)) (a .m)) (now (a .cells)) (s .pre .1 .1)
 
 double-requires : tie.Need-double-requires Inv-loop μ-loop
 double-requires c κs = room (c .before .before)
 
 sub-cells : tie.Need-sub-cells Inv-loop μ-loop
-sub-cells c = omega (arith, long-enough _ (c .before .before .before .before .before .before .before .before .before .pre .0))
+sub-cells c = omega (arith, long-enough _ (c .before .before .before .before .before .before .before .before .before .before .pre .0))
 
 cast-cells : tie.Need-cast-cells Inv-loop μ-loop
 cast-cells c = search needs
@@ -102,13 +102,13 @@ loop-less c = search needs
 
 loop-again : tie.Need-loop-again Inv-loop μ-loop
 loop-again c =
-    let s = c .before .before .before .before .before .before .before .before .before in
+    let s = c .before .before .before .before .before .before .before .before .before .before in
     let a = s .args in
     let l = c .before .before .before .before .before .loop in
     let b = c .before .before .before .before .before .before .byte-at in
     let size : length (set (now (a .cells)) 0 (a .m)) ≡ length (now (a .cells)) = length-set (now (a .cells)) 0 (a .m) in
     rw (c .before .before .double .ensures)
-    (ends-more (patternOf (now (a .pattern)) (a .m)) (long-enough _ (s .pre .0)) _ (omega arith) (l .cells) (l .size) (l .k) (l .inv) _
+    (ends-more (patternOf (now (a .pattern)) (now (a .fixed)) (a .m)) (s .pre .1 .0) (long-enough _ (s .pre .0)) _ (omega arith) (l .cells) (l .size) (l .k) (l .inv) _
     (ap (λ (x : ℕ). x / 2 ^ (8 - l .k)) (b .ensures)) (omega arith))
 
 double-requires-2 : tie.Need-double-requires-2 Inv-loop μ-loop

@@ -9,7 +9,7 @@ enum-told c = search needs
 
 prepare-requires : tie.Need-prepare-requires
 prepare-requires c κs =
-    let s = c .before .before .before .before .before in
+    let s = c .before .before .before .before .before .before in
     let e = c .before .enum-told .given .1 in
     (rw e at (s .pre .0), rw e at (s .pre .1))
 
@@ -18,7 +18,7 @@ enum-told-2 c = search needs
 
 prepare-requires-2 : tie.Need-prepare-requires-2
 prepare-requires-2 c κs =
-    let s = c .before .before .before .before .before in
+    let s = c .before .before .before .before .before .before in
     let e = c .before .enum-told2 .given .1 in
     (rw e at (s .pre .0), rw e at (s .pre .1))
 
@@ -27,7 +27,7 @@ enum-told-3 c = search needs
 
 prepare-requires-3 : tie.Need-prepare-requires-3
 prepare-requires-3 c κs =
-    let s = c .before .before .before .before .before in
+    let s = c .before .before .before .before .before .before in
     let e = c .before .enum-told3 .given .1 in
     (rw e at (s .pre .0), rw e at (s .pre .1))
 
@@ -36,7 +36,7 @@ enum-told-4 c = search needs
 
 prepare-requires-4 : tie.Need-prepare-requires-4
 prepare-requires-4 c κs =
-    let s = c .before .before .before .before .before in
+    let s = c .before .before .before .before .before .before in
     let e = c .before .enum-told4 .given .1 in
     (rw e at (s .pre .0), rw e at (s .pre .1))
 
@@ -45,7 +45,7 @@ enum-told-5 c = search needs
 
 prepare-requires-5 : tie.Need-prepare-requires-5
 prepare-requires-5 c κs =
-    let s = c .before .before .before .before .before in
+    let s = c .before .before .before .before .before .before in
     let e = c .before .enum-told5 .given .1 in
     (rw e at (s .pre .0), rw e at (s .pre .1))
 

@@ -9,31 +9,31 @@ enum-told : tie.Need-enum-told
 enum-told c = search needs
 
 step-requires : tie.Need-step-requires
-step-requires c κs = ready-as (c .before .enum-told .given .1) (c .before .before .before .before .before .before .before .pre)
+step-requires c κs = ready-as (c .before .enum-told .given .1) (c .before .before .before .before .before .before .before .before .pre)
 
 enum-told-2 : tie.Need-enum-told-2
 enum-told-2 c = search needs
 
 step-requires-2 : tie.Need-step-requires-2
-step-requires-2 c κs = ready-as (c .before .enum-told2 .given .1) (c .before .before .before .before .before .before .before .pre)
+step-requires-2 c κs = ready-as (c .before .enum-told2 .given .1) (c .before .before .before .before .before .before .before .before .pre)
 
 enum-told-3 : tie.Need-enum-told-3
 enum-told-3 c = search needs
 
 step-requires-3 : tie.Need-step-requires-3
-step-requires-3 c κs = ready-as (c .before .enum-told3 .given .1) (c .before .before .before .before .before .before .before .pre)
+step-requires-3 c κs = ready-as (c .before .enum-told3 .given .1) (c .before .before .before .before .before .before .before .before .pre)
 
 enum-told-4 : tie.Need-enum-told-4
 enum-told-4 c = search needs
 
 step-requires-4 : tie.Need-step-requires-4
-step-requires-4 c κs = ready-as (c .before .enum-told4 .given .1) (c .before .before .before .before .before .before .before .pre)
+step-requires-4 c κs = ready-as (c .before .enum-told4 .given .1) (c .before .before .before .before .before .before .before .before .pre)
 
 enum-told-5 : tie.Need-enum-told-5
 enum-told-5 c = search needs
 
 step-requires-5 : tie.Need-step-requires-5
-step-requires-5 c κs = ready-as (c .before .enum-told5 .given .1) (c .before .before .before .before .before .before .before .pre)
+step-requires-5 c κs = ready-as (c .before .enum-told5 .given .1) (c .before .before .before .before .before .before .before .before .pre)
 
 same-length : tie.Need-same-length
 same-length c = search needs

@@ -12,25 +12,25 @@ use Rattle.plain.proofs.prepare.Statement.{statement}
 use Rattle.plain.proofs.prepare.Tie as tie
 
 abbrev Inv-loop : tie.InvT-loop
-Inv-loop pattern m cells₀ chunks prev₀ prev-mask₀ k₀ cells prev prev-mask k = (k ≤ chunks) × Made (patternOf pattern m) k prev prev-mask cells₀ cells
+Inv-loop pattern fixed m cells₀ chunks prev₀ prev-mask₀ k₀ cells prev prev-mask k = (k ≤ chunks) × Made (patternOf pattern fixed m) k prev prev-mask cells₀ cells
 
 abbrev μ-loop : tie.MeasureT-loop
-μ-loop pattern m cells₀ chunks prev₀ prev-mask₀ k₀ cells prev prev-mask k = chunks - k
+μ-loop pattern fixed m cells₀ chunks prev₀ prev-mask₀ k₀ cells prev prev-mask k = chunks - k
 
 add-chunks : tie.Need-add-chunks Inv-loop μ-loop
 add-chunks c = search needs
 
 loop-holds : tie.Need-loop-holds Inv-loop μ-loop
-loop-holds c = let a = c .before .before .args in (omega arith, made-none (patternOf (now (a .pattern)) (a .m)) (now (a .cells)))
+loop-holds c = let a = c .before .before .before .args in (omega arith, made-none (patternOf (now (a .pattern)) (now (a .fixed)) (a .m)) (now (a .cells)))
 
 ones-requires : tie.Need-ones-requires Inv-loop μ-loop
 ones-requires c κs = search needs
 
-mul-t13 : tie.Need-mul-t13 Inv-loop μ-loop
-mul-t13 c = search needs
+mul-t14-2 : tie.Need-mul-t14-2 Inv-loop μ-loop
+mul-t14-2 c = search needs
 
-word-at-requires : tie.Need-word-at-requires Inv-loop μ-loop
-word-at-requires c κs = search needs
+word-at-requires-2 : tie.Need-word-at-requires-2 Inv-loop μ-loop
+word-at-requires-2 c κs = search needs
 
 cast-fill : tie.Need-cast-fill Inv-loop μ-loop
 cast-fill c = search needs
@@ -46,13 +46,13 @@ loop-less c = search needs
 
 loop-again : tie.Need-loop-again Inv-loop μ-loop
 loop-again c =
-    let a = c .before .before .before .before .before .before .before .before .before .before .args in
-    let l = c .before .before .before .before .before .before .before .loop in
-    let w = patternOf (now (a .pattern)) (a .m) in
-    let ms = mask-holds w (l .k) _ (c .before .before .before .before .before .ones .ensures) in (
+    let a = c .before .before .before .before .before .before .before .before .before .before .before .before .args in
+    let l = c .before .before .before .before .before .before .before .before .loop in
+    let w = patternOf (now (a .pattern)) (now (a .fixed)) (a .m) in
+    let ms = mask-holds w (l .k) _ _ (c .before .before .before .before .before .ones .ensures) (c .before .before .before .before .before .before .word-at .ensures) in (
       omega arith,
       made-more w (l .k) (l .prev) (l .prev-mask) _ _ (now (a .cells)) (l .cells) _ (l .inv .1)
-          (row-holds w (l .k) _ _ ms (c .before .before .before .before .word-at .ensures)) ms (c .before .before .fill .ensures),
+          (row-holds w (l .k) _ _ ms (c .before .before .before .before .word-at2 .ensures)) ms (c .before .before .fill .ensures),
     )
 
 same-length : tie.Need-same-length Inv-loop μ-loop
@@ -60,10 +60,16 @@ same-length c = c .before .loop .inv .1 .size
 
 returns : tie.Need-returns Inv-loop μ-loop
 returns c =
-    let s = c .before .before .before .before in
+    let s = c .before .before .before .before .before in
     let l = c .before .loop in
     let whole : rowChunks (s .args .m) ≡ l .k = omega arith in
-    made-all (patternOf (now (s .args .pattern)) (s .args .m)) (l .k) _ _ (now (s .args .cells)) (l .cells) (l .inv .1) (s .pre .0 .some-bits) whole
+    made-all (patternOf (now (s .args .pattern)) (now (s .args .fixed)) (s .args .m)) (l .k) _ _ (now (s .args .cells)) (l .cells) (l .inv .1) (s .pre .0 .some-bits) whole
+
+mul-t14 : tie.Need-mul-t14 Inv-loop μ-loop
+mul-t14 c = search needs
+
+word-at-requires : tie.Need-word-at-requires Inv-loop μ-loop
+word-at-requires c κs = search needs
 
 pub prepare-spec : {M : Type 1} → statement M
 prepare-spec =
@@ -73,9 +79,11 @@ prepare-spec =
     μ-loop
     add-chunks
     loop-holds
-    ones-requires
-    mul-t13
+    mul-t14
     word-at-requires
+    ones-requires
+    mul-t14-2
+    word-at-requires-2
     cast-fill
     fill-requires
     add-k

@@ -1,51 +1,74 @@
 -- `skip::prepare` meets its contract. The loop's invariant: the indices below j are entered.
 -- Assumes nothing.
 use borrow.Author.Needs.{needs}
-use Prim.Native.Nat.{_+_, _-_, _≤_}
-use mathlib.Core.Path.{_∙_}
+use Prim.Native.Nat.{ℕ, _+_, _-_, _≤_}
+use mathlib.Core.Path.{_≡_, refl, _∙_}
+use mathlib.Core.List.{List}
 use native.Mathlib.Omega.{arith}
 use denote.Ref.{now}
-use lib.ListN.{length}
+use lib.ListN.{length, length-set}
 use borrow.Author.Tests.{ltb-false}
+use Rattle.rules.specs.Pattern.{Pattern}
 use Rattle.matcher.specs.Progress.{patternOf}
 use Rattle.skip.specs.SkipChains.{Filled}
 use Rattle.skip.proofs.SkipChain.{chained-fits}
-use Rattle.skip.proofs.SkipFilling.{same-size, filled-none, filled-here, filled-then, filled-all}
+use Rattle.skip.proofs.SkipFilling.{same-size, empty-size, empty-rest, filled-none, filled-here, filled-then, filled-all}
 use Rattle.skip.proofs.prepare.Statement.{statement}
 use Rattle.skip.proofs.prepare.Tie as tie
 
 abbrev Inv-loop : tie.InvT-loop
-Inv-loop pattern m cells₀ count j₀ cells j = (j ≤ count) × Filled (patternOf pattern m) cells₀ j cells
+Inv-loop pattern fixed m cells₀ count j₀ cells j = (j ≤ count) × Filled (patternOf pattern fixed m) cells₀ j cells
 
 abbrev μ-loop : tie.MeasureT-loop
-μ-loop pattern m cells₀ count j₀ cells j = m - j
+μ-loop pattern fixed m cells₀ count j₀ cells j = m - j
+
+-- the pattern
+abbrev pattern : tie.Start Inv-loop μ-loop → Pattern
+pattern s = patternOf (now (s .args .pattern)) (now (s .args .fixed)) (s .args .m)
+
+-- the cells are as many as before
+kept : (c : tie.At-loop Inv-loop μ-loop) → length (c .loop .cells) ≡ length (now (c .before .before .before .before .before .before .before .before .before .args .cells))
+kept c =
+    let k = c .before .before .before .before in
+    let s = k .before .before .before .before .before in
+    let size = simp length-set at (c .loop .inv .1 .size) in
+    size ∙ same-size 256 (now (s .args .cells)) (k .clear .last .0) (k .clear .ensures) (omega arith)
 
 -- room for the tables at each turn
-room : (c : tie.At-loop Inv-loop μ-loop) → 256 + c .before .before .before .before .before .before .before .before .args .m ≤ length (c .loop .cells)
-room c =
-    let k = c .before .before .before .before in
-    let s = k .before .before .before .before in
-    omega (arith, c .loop .inv .1 .size, same-size 256 (now (s .args .cells)) (k .clear .last .0) (k .clear .ensures) (omega arith))
+room : (c : tie.At-loop Inv-loop μ-loop) → 256 + c .before .before .before .before .before .before .before .before .before .args .m ≤ length (c .loop .cells)
+room c = omega (arith, kept c)
 
 -- each index that is chained fits into the pattern
-few : (c : tie.After-indices Inv-loop μ-loop) → c .indices .result + 7 ≤ c .before .before .before .before .before .before .before .args .m
+few : (c : tie.After-indices Inv-loop μ-loop) → c .indices .result + 7 ≤ c .before .before .before .before .before .before .before .before .args .m
 few c =
-    let s = c .before .before .before .before .before .before .before in
+    let s = c .before .before .before .before .before .before .before .before in
     rw (c .indices .ensures) (chained-fits (s .args .m) (ltb-false (s .args .m) 15 (s .pre .0 .fit)))
 
 clear-requires : tie.Need-clear-requires Inv-loop μ-loop
 clear-requires c κs = search needs
 
+add-cells : tie.Need-add-cells Inv-loop μ-loop
+add-cells c = omega (arith, c .before .before .before .before .before .before .before .pre .0 .few-bits)
+
+mul-cells : tie.Need-mul-cells Inv-loop μ-loop
+mul-cells c = omega (arith, c .before .before .before .before .before .before .before .pre .0 .few-bits)
+
+slice-write-cells : tie.Need-slice-write-cells Inv-loop μ-loop
+slice-write-cells c =
+    let k = c .before .before in
+    let s = k .before .before .before .before .before in
+    omega (arith, same-size 256 (now (s .args .cells)) (k .clear .last .0) (k .clear .ensures) (omega arith))
+
 indices-requires : tie.Need-indices-requires Inv-loop μ-loop
 indices-requires c κs =
-    let s = c .before .before .before .before .before .before in
+    let s = c .before .before .before .before .before .before .before in
     (ltb-false (s .args .m) 15 (s .pre .0 .fit), s .pre .0 .few-bits)
 
 loop-holds : tie.Need-loop-holds Inv-loop μ-loop
 loop-holds c =
     let k = c .before .before .before in
-    let a = k .before .before .before .before .args in
-    (omega arith, filled-none (patternOf (now (a .pattern)) (a .m)) (now (a .cells)) (k .clear .last .0) (k .clear .ensures))
+    let s = k .before .before .before .before .before in
+    (omega arith, filled-none (pattern s) (now (s .args .cells)) (k .clear .last .0) _ (k .clear .ensures) refl (s .pre .0 .some-bits) (s .pre .1))
 
 add-loop : tie.Need-add-loop Inv-loop μ-loop
 add-loop c = omega (arith, few (c .before))
@@ -77,17 +100,17 @@ enter-requires-2 c κs =
     ((omega arith, omega arith, omega arith, room (c .before .before)), filled-here (l .inv .1))
 
 same-length : tie.Need-same-length Inv-loop μ-loop
-same-length c =
-    let k = c .before .before .before .before .before .before .before .before .before in
-    let a = k .before .before .before .before .args in
-    filled-then (c .before .before .before .before .before .loop .inv .1) (c .before .before .enter2 .ensures) .size ∙ same-size 256 (now (a .cells)) (k .clear .last .0) (k .clear .ensures) (omega arith)
+same-length c = c .before .before .enter2 .ensures .size ∙ kept (c .before .before .before .before .before)
 
 returns : tie.Need-returns Inv-loop μ-loop
 returns c =
-    let k = c .before .before .before .before .before .before .before .before .before in
-    let a = k .before .before .before .before .args in
-    filled-all (patternOf (now (a .pattern)) (a .m)) (now (a .cells)) _ _ _ (k .clear .ensures) (omega arith)
-    (filled-then (c .before .before .before .before .before .loop .inv .1) (c .before .before .enter2 .ensures)) (omega (arith, c .before .before .before .before .before .before .indices .ensures))
+    let i = c .before .before .before .before .before .before in
+    let k = i .before .before .before in
+    let s = k .before .before .before .before .before in
+    let size = empty-size (pattern s) (now (s .args .cells)) (k .clear .last .0) _ (k .clear .ensures) refl (s .pre .0 .some-bits) (s .pre .1) in
+    let rest = empty-rest (pattern s) (now (s .args .cells)) (k .clear .last .0) _ (k .clear .ensures) refl (s .pre .0 .some-bits) (s .pre .1) in
+    filled-all (pattern s) (now (s .args .cells)) _ _ _ size rest
+    (filled-then (c .before .before .before .before .before .loop .inv .1) (c .before .before .enter2 .ensures)) (omega (arith, i .indices .ensures))
 
 pub prepare-spec : {M : Type 1} → statement M
 prepare-spec =
@@ -96,6 +119,9 @@ prepare-spec =
     Inv-loop
     μ-loop
     clear-requires
+    add-cells
+    mul-cells
+    slice-write-cells
     indices-requires
     loop-holds
     add-loop

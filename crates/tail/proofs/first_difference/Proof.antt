@@ -16,7 +16,7 @@ shl-result : tie.Need-shl-result
 shl-result c = search needs
 
 returns : tie.Need-returns
-returns c = let a = c .args in differs-is (a .ones) (a .x) (a .r) (omega arith) (c .pre)
+returns c = let a = c .args in differs-is (a .ones) (a .care) (a .x) (a .r) (omega arith) (c .pre)
 
 pub first-difference-spec : {M : Type 1} → statement M
 first-difference-spec = tie.close (tie.spec sub-result cast-result shl-result returns)

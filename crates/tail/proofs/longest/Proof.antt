@@ -16,7 +16,7 @@ returns c =
     let s = c .before .before in
     let k = s .args .k in
     let d = c .before .lengths-left in
-    longest-of (k .m) (k .zeros) (k .ones) (s .args .x) (d .result) _ (s .pre .0) (d .ensures) (c .compare-down .ensures)
+    longest-of (k .m) (k .zeros) (k .ones) (s .args .x) (d .result) _ (s .pre .0) (s .pre .1) (d .ensures) (rw (s .pre .2 .care-is) at (c .compare-down .ensures))
 
 pub longest-spec : {M : Type 1} → statement M
 longest-spec = tie.close (tie.spec lengths-left-requires compare-down-requires returns)

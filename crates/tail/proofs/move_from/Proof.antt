@@ -1,5 +1,6 @@
 -- `tail::move_from` meets its contract: the same window has the same move.
 -- Assumes nothing.
+use native.Mathlib.Omega.{arith}
 use borrow.Author.Needs.{needs}
 use Rattle.tail.proofs.move_from.Statement.{statement}
 use Rattle.tail.proofs.move_from.Tie as tie
@@ -11,7 +12,7 @@ longest-requires : tie.Need-longest-requires
 longest-requires c κs = search needs
 
 sub-result : tie.Need-sub-result
-sub-result c = search needs
+sub-result c = omega (arith, c .before .longest .ensures .below)
 
 returns-2 : tie.Need-returns-2
 returns-2 c = search needs

@@ -19,6 +19,9 @@ shl-inside c = search needs
 word-at-byte-requires : tie.Need-word-at-byte-requires
 word-at-byte-requires c κs = search needs
 
+word-at-byte-requires-2 : tie.Need-word-at-byte-requires-2
+word-at-byte-requires-2 c κs = search needs
+
 slice-write-cells : tie.Need-slice-write-cells
 slice-write-cells c = search needs
 
@@ -30,10 +33,10 @@ same-length c = search needs
 
 returns : tie.Need-returns
 returns c =
-    let s = c .before .before .before in
+    let s = c .before .before .before .before .before in
     let a = s .args in
-    let w = patternOf (now (a .pattern)) (a .m) in
-    prepared w (s .pre .0 .some-bits) (short-enough w (s .pre .0)) (now (a .cells)) _ (s .pre .1) (c .word-at-byte .ensures)
+    let w = patternOf (now (a .pattern)) (now (a .fixed)) (a .m) in
+    prepared w (s .pre .0 .some-bits) (short-enough w (s .pre .0)) (now (a .cells)) _ _ (s .pre .1) (c .word-at-byte2 .ensures) (c .before .word-at-byte .ensures)
 
 pub prepare-spec : {M : Type 1} → statement M
 prepare-spec =
@@ -43,6 +46,7 @@ prepare-spec =
     cast-inside
     shl-inside
     word-at-byte-requires
+    word-at-byte-requires-2
     slice-write-cells
     slice-write-cells-2
     same-length

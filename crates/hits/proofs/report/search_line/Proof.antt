@@ -7,6 +7,7 @@ use lib.ListN.{length, replicate}
 use borrow.Author.Needs.{needs}
 use Rattle.rules.proofs.Scratch.{enough}
 use Rattle.lines.proofs.Putting.{puts-as}
+use Rattle.hits.specs.Printed.{fixedPattern}
 use Rattle.hits.proofs.Enough.{cells, holds, held}
 use Rattle.hits.proofs.Answers.{Call, refused-printed, accepted-printed, fits}
 use Rattle.hits.proofs.report.search_line.Statement.{statement}
@@ -15,11 +16,11 @@ use Rattle.hits.proofs.report.search_line.Tie as tie
 new-requires : tie.Need-new-requires
 new-requires c κs = search needs
 
-slice-aggregate-search : tie.Need-slice-aggregate-search
-slice-aggregate-search c = cells _
-
 slice-aggregate-search-2 : tie.Need-slice-aggregate-search-2
 slice-aggregate-search-2 c = cells _
+
+slice-aggregate-search-3 : tie.Need-slice-aggregate-search-3
+slice-aggregate-search-3 c = cells _
 
 search-requires : tie.Need-search-requires
 search-requires c κs = search needs
@@ -40,20 +41,20 @@ same-length : tie.Need-same-length
 same-length c = search needs
 
 -- what the search promised
-made : (c : tie.After-search) → (let a = c .before .before .before .before .before .before .before .args in Call (record { bytes = a .text .now; count = a .n }) (record { bytes = a .pattern .now; count = a .m }) (a .method) (replicate 4096 0) (replicate 4222 0) (c .search .result) (c .search .last .1 .1 .1 .1 .1 .1 .1 .0) (c .search .last .1 .1 .1 .1 .1 .1 .1 .1 .0))
+made : (c : tie.After-search) → (let a = c .before .before .before .before .before .before .before .before .args in Call (record { bytes = a .text .now; count = a .n }) (fixedPattern (a .pattern .now) (a .m)) (a .method) (replicate 4096 0) (replicate 4222 0) (c .search .result) (c .search .last .1 .1 .1 .1 .1 .1 .1 .1 .0) (c .search .last .1 .1 .1 .1 .1 .1 .1 .1 .1 .0))
 made c =
-    let start = c .before .before .before .before .before .before .before in
+    let start = c .before .before .before .before .before .before .before .before in
     record {
       mark = _;
-      fresh = c .before .before .before .new .ensures;
+      fresh = c .before .before .before .before .new .ensures;
       cells = holds _ 4096 (search needs);
       room = holds _ 4222 (enough (start .args .method) (start .args .m) (start .pre .1));
       promise = c .search .ensures;
     }
 
 -- the list has still 4,096 cells
-few-hits : (c : tie.After-search) {hits : ℕ} → hits ≤ length (c .search .last .1 .1 .1 .1 .1 .1 .1 .0) → hits ≤ 4096
-few-hits c h = held 4096 (c .search .last .1 .1 .1 .1 .1 .1 .1 .0) (c .search .kept .1 .1 .1 .1 .1 .1 .1 .0) h
+few-hits : (c : tie.After-search) {hits : ℕ} → hits ≤ length (c .search .last .1 .1 .1 .1 .1 .1 .1 .1 .0) → hits ≤ 4096
+few-hits c h = held 4096 (c .search .last .1 .1 .1 .1 .1 .1 .1 .1 .0) (c .search .kept .1 .1 .1 .1 .1 .1 .1 .1 .0) h
 
 returns : tie.Need-returns
 returns c =
@@ -78,6 +79,9 @@ returns-2 c =
     let few = few-hits (c .before .before .before .before .before .before .before .before .before .before) (fits (made (c .before .before .before .before .before .before .before .before .before .before)) (c .before .before .before .before .before .before .outcome .given .1)) in
     (puts-as (accepted-printed (made (c .before .before .before .before .before .before .before .before .before .before)) (c .before .before .before .before .before .before .outcome .given .1)) (e .0), omega (arith, few, e .1))
 
+slice-aggregate-search : tie.Need-slice-aggregate-search
+slice-aggregate-search c = cells _
+
 pub search-line-spec : {M : Type 1} → statement M
 search-line-spec =
     tie.close
@@ -85,6 +89,7 @@ search-line-spec =
     new-requires
     slice-aggregate-search
     slice-aggregate-search-2
+    slice-aggregate-search-3
     search-requires
     enum-known-outcome
     enum-told

@@ -1,96 +1,100 @@
--- `matcher::compare::stands_inside` meets its contract. A short pattern is one load; else the loop's invariant is that the bits
--- passed, whole bytes, agree (`Passed`).
+-- `matcher::compare::stands_inside` meets its contract. The loop's invariant: the bits before byte b agree (`Passed`), and the last
+-- load is not passed.
 -- Assumes nothing.
 use borrow.Author.Needs.{needs}
-use Prim.Native.Nat.{_-_}
+use mathlib.Core.Path.{_≡_}
+use Prim.Native.Nat.{ℕ, _+_, _-_, _*_, _%_, _≤_}
 use native.Mathlib.Omega.{arith}
-use Rattle.matcher.proofs.Chunks.{Passed, one-load, none-passed, next-byte, next-differs, next-agrees, last-decides}
+use denote.Ref.{now}
+use Rattle.bits.specs.Packed.{bitsAt}
+use Rattle.matcher.proofs.Chunks.{Passed, none-passed, next-differs, next-agrees, last-decides}
 use Rattle.matcher.proofs.compare.stands_inside.Statement.{statement}
 use Rattle.matcher.proofs.compare.stands_inside.Tie as tie
 
 abbrev Inv-loop : tie.InvT-loop
-Inv-loop text pattern m at o₀ o = Passed text pattern m at o
+Inv-loop text pattern fixed m at last b₀ b = Passed text pattern fixed m at (b * 8) × (b ≤ last + 7)
 
 abbrev μ-loop : tie.MeasureT-loop
-μ-loop text pattern m at o₀ o = m - o
+μ-loop text pattern fixed m at last b₀ b = last - b
+
+bytes-for-requires : tie.Need-bytes-for-requires Inv-loop μ-loop
+bytes-for-requires c κs = omega arith
+
+sub-last : tie.Need-sub-last Inv-loop μ-loop
+sub-last c = omega arith
+
+loop-holds : tie.Need-loop-holds Inv-loop μ-loop
+loop-holds c = (none-passed _ _ _ _ _ (omega arith), omega arith)
+
+place-requires : tie.Need-place-requires Inv-loop μ-loop
+place-requires c κs = omega arith
+
+add-t19 : tie.Need-add-t19 Inv-loop μ-loop
+add-t19 c = omega arith
 
 word-inside-requires : tie.Need-word-inside-requires Inv-loop μ-loop
-word-inside-requires c κs = omega (arith, c .before .before .before .pre)
+word-inside-requires c κs = omega arith
 
-cast-result : tie.Need-cast-result Inv-loop μ-loop
-cast-result c = search needs
+eight-bytes-requires : tie.Need-eight-bytes-requires Inv-loop μ-loop
+eight-bytes-requires c κs = omega arith
 
-shr-result : tie.Need-shr-result Inv-loop μ-loop
-shr-result c = search needs
+eight-bytes-requires-2 : tie.Need-eight-bytes-requires-2 Inv-loop μ-loop
+eight-bytes-requires-2 c κs = omega arith
 
-word-at-byte-requires : tie.Need-word-at-byte-requires Inv-loop μ-loop
-word-at-byte-requires c κs = search needs
-
-cast-result-2 : tie.Need-cast-result-2 Inv-loop μ-loop
-cast-result-2 c = search needs
-
-shr-result-2 : tie.Need-shr-result-2 Inv-loop μ-loop
-shr-result-2 c = search needs
+same-where-requires : tie.Need-same-where-requires Inv-loop μ-loop
+same-where-requires c κs = omega arith
 
 returns : tie.Need-returns Inv-loop μ-loop
 returns c =
-    one-load _ _ _ _ (omega arith) (c .before .word-inside .ensures) (c .word-at-byte .ensures)
+    next-differs _ _ _ _ _ (c .before .before .before .before .before .before .before .before .loop .b * 8) (omega arith) (rw (c .before .before .before .before .before .before .place .ensures) at (c .before .before .before .before .word-inside .ensures))
+    (c .before .before .before .eight-bytes .ensures) (c .before .before .eight-bytes2 .ensures) (c .before .same-where .ensures) (c .if1 .taken)
 
-loop-holds : tie.Need-loop-holds Inv-loop μ-loop
-loop-holds c = none-passed _ _ _ _ (omega arith)
-
-add-loop : tie.Need-add-loop Inv-loop μ-loop
-add-loop c = omega arith
-
-add-t17 : tie.Need-add-t17 Inv-loop μ-loop
-add-t17 c = omega arith
-
-word-inside-requires-2 : tie.Need-word-inside-requires-2 Inv-loop μ-loop
-word-inside-requires-2 c κs = omega (arith, c .before .before .before .before .before .pre)
-
-byte-requires : tie.Need-byte-requires Inv-loop μ-loop
-byte-requires c κs = search needs
-
-word-at-byte-requires-2 : tie.Need-word-at-byte-requires-2 Inv-loop μ-loop
-word-at-byte-requires-2 c κs = omega (arith, c .byte .ensures)
-
-returns-2 : tie.Need-returns-2 Inv-loop μ-loop
-returns-2 c =
-    let l = c .before .before .before .before .before .loop in
-    next-differs _ _ _ _ (l .o) (omega arith) (c .before .before .before .word-inside2 .ensures)
-    (next-byte _ _ _ _ (l .o) (l .inv) (c .before .before .byte .ensures) (c .before .word-at-byte2 .ensures)) (c .if2 .taken)
-
-add-o : tie.Need-add-o Inv-loop μ-loop
-add-o c = omega arith
+add-b : tie.Need-add-b Inv-loop μ-loop
+add-b c = omega arith
 
 loop-less : tie.Need-loop-less Inv-loop μ-loop
 loop-less c = omega arith
 
 loop-again : tie.Need-loop-again Inv-loop μ-loop
 loop-again c =
-    let l = c .before .before .before .before .before .loop in
-    next-agrees _ _ _ _ (l .o) (l .inv) (omega arith) (c .before .before .before .word-inside2 .ensures)
-    (next-byte _ _ _ _ (l .o) (l .inv) (c .before .before .byte .ensures) (c .before .word-at-byte2 .ensures)) (c .if2 .left)
+    let l = c .before .before .before .before .before .before .before .before .loop in
+    let next : (l .b + 8) * 8 ≡ l .b * 8 + 64 = omega arith in (
+      rw next
+          (next-agrees _ _ _ _ _ (l .b * 8) (omega arith) (rw (c .before .before .before .before .before .before .place .ensures) at (c .before .before .before .before .word-inside .ensures))
+          (c .before .before .before .eight-bytes .ensures) (c .before .before .eight-bytes2 .ensures) (c .before .same-where .ensures) (l .inv .0) (c .if1 .left)),
+      omega arith,
+    )
 
-sub-t25 : tie.Need-sub-t25 Inv-loop μ-loop
-sub-t25 c = omega arith
+place-requires-2 : tie.Need-place-requires-2 Inv-loop μ-loop
+place-requires-2 c κs = omega arith
 
-add-t26 : tie.Need-add-t26 Inv-loop μ-loop
-add-t26 c = omega arith
+add-same-where : tie.Need-add-same-where Inv-loop μ-loop
+add-same-where c = omega arith
 
-word-inside-requires-3 : tie.Need-word-inside-requires-3 Inv-loop μ-loop
-word-inside-requires-3 c κs = omega (arith, c .before .before .before .before .before .pre)
+word-inside-requires-2 : tie.Need-word-inside-requires-2 Inv-loop μ-loop
+word-inside-requires-2 c κs = omega arith
 
-sub-t29 : tie.Need-sub-t29 Inv-loop μ-loop
-sub-t29 c = omega arith
+eight-bytes-requires-3 : tie.Need-eight-bytes-requires-3 Inv-loop μ-loop
+eight-bytes-requires-3 c κs = omega arith
 
-word-at-requires : tie.Need-word-at-requires Inv-loop μ-loop
-word-at-requires c κs = search needs
+eight-bytes-requires-4 : tie.Need-eight-bytes-requires-4 Inv-loop μ-loop
+eight-bytes-requires-4 c κs = omega arith
 
-returns-3 : tie.Need-returns-3 Inv-loop μ-loop
-returns-3 c =
-    let l = c .before .before .before .loop in
-    last-decides _ _ _ _ (l .o) (l .inv) (omega arith) (omega arith) (c .before .word-inside3 .ensures) (c .word-at .ensures)
+sub-same-where : tie.Need-sub-same-where Inv-loop μ-loop
+sub-same-where c = omega arith
+
+same-where-requires-2 : tie.Need-same-where-requires-2 Inv-loop μ-loop
+same-where-requires-2 c κs = omega arith
+
+returns-2 : tie.Need-returns-2 Inv-loop μ-loop
+returns-2 c =
+    let s = c .before .before .before .before .before .before .before .before .before .before .before in
+    let l = c .before .before .before .before .before .before .loop in
+    let from = c .before .before .before .before .place2 .result .0 in
+    let is = c .before .before .before .before .place2 .ensures in
+    let back : s .args .m - (s .args .m - from) ≡ from = omega arith in
+    last-decides _ _ _ _ _ (l .b * 8) (s .args .m - from) (l .inv .0) (omega arith) (omega arith) (omega arith)
+    (rw back (c .before .before .before .word-inside2 .ensures)) (rw (back, is) (c .before .before .eight-bytes3 .ensures)) (rw (back, is) (c .before .eight-bytes4 .ensures)) (c .same-where2 .ensures)
 
 pub stands-inside-spec : {M : Type 1} → statement M
 stands-inside-spec =
@@ -98,26 +102,24 @@ stands-inside-spec =
     (tie.spec
     Inv-loop
     μ-loop
-    word-inside-requires
-    cast-result
-    shr-result
-    word-at-byte-requires
-    cast-result-2
-    shr-result-2
-    returns
+    bytes-for-requires
+    sub-last
     loop-holds
-    add-loop
-    add-t17
-    word-inside-requires-2
-    byte-requires
-    word-at-byte-requires-2
-    returns-2
-    add-o
+    place-requires
+    add-t19
+    word-inside-requires
+    eight-bytes-requires
+    eight-bytes-requires-2
+    same-where-requires
+    returns
+    add-b
     loop-less
     loop-again
-    sub-t25
-    add-t26
-    word-inside-requires-3
-    sub-t29
-    word-at-requires
-    returns-3)
+    place-requires-2
+    add-same-where
+    word-inside-requires-2
+    eight-bytes-requires-3
+    eight-bytes-requires-4
+    sub-same-where
+    same-where-requires-2
+    returns-2)

@@ -18,7 +18,7 @@ use Rattle.search.proofs.Mark.search.Tie as tie
 asked : tie.Start → Request
 asked s =
     let a = s .args in
-    record { text = textOf (now (a .text)) (a .n); pattern = patternOf (now (a .pattern)) (a .m); method = a .method; mark = a .self .at .0; budget = a .budget; list = now (a .list); scratch = now (a .scratch) }
+    record { text = textOf (now (a .text)) (a .n); pattern = patternOf (now (a .pattern)) (now (a .fixed)) (a .m); method = a .method; mark = a .self .at .0; budget = a .budget; list = now (a .list); scratch = now (a .scratch) }
 
 -- what a call that passed the check may rely on
 may-run : (q : Request) (k : Checked) → checkOf k ≡ checkVerdict (q .text) (q .pattern) (q .method) (q .mark) (q .scratch) → k ≡ Passed
@@ -36,22 +36,22 @@ enum-told c = search needs
 
 cast-accepted : tie.Need-cast-accepted
 unfolding asked
-cast-accepted c = omega (arith, may-run (asked (c .before .before .before .before .before .before .before .before .before)) _ (c .before .before .check .ensures) (c .enum-told .given .1) .few-bits)
+cast-accepted c = omega (arith, may-run (asked (c .before .before .before .before .before .before .before .before .before .before)) _ (c .before .before .check .ensures) (c .enum-told .given .1) .few-bits)
 
 cast-accepted-2 : tie.Need-cast-accepted-2
 unfolding asked
-cast-accepted-2 c = omega (arith, may-run (asked (c .before .before .before .before .before .before .before .before .before)) _ (c .before .before .check .ensures) (c .enum-told .given .1) .pattern .few-bits)
+cast-accepted-2 c = omega (arith, may-run (asked (c .before .before .before .before .before .before .before .before .before .before)) _ (c .before .before .check .ensures) (c .enum-told .given .1) .pattern .few-bits)
 
 accepted-requires : tie.Need-accepted-requires
 unfolding asked
-accepted-requires c κs = may-run (asked (c .before .before .before .before .before .before .before .before .before .before .before)) _ (c .before .before .before .before .check .ensures) (c .before .before .enum-told .given .1)
+accepted-requires c κs = may-run (asked (c .before .before .before .before .before .before .before .before .before .before .before .before)) _ (c .before .before .before .before .check .ensures) (c .before .before .enum-told .given .1)
 
 same-length : tie.Need-same-length
 same-length c = search needs
 
 returns : tie.Need-returns
 unfolding asked
-returns c = record { verdict-is = not-passed (asked (c .before .before .before .before .before .before .before .before .before .before)) _ (c .before .before .before .check .ensures) _ (c .before .checked .given .1); list-is = refl; scratch-is = refl }
+returns c = record { verdict-is = not-passed (asked (c .before .before .before .before .before .before .before .before .before .before .before)) _ (c .before .before .before .check .ensures) _ (c .before .checked .given .1); list-is = refl; scratch-is = refl }
 
 same-length-2 : tie.Need-same-length-2
 same-length-2 c = search needs
@@ -64,7 +64,7 @@ unfolding asked machine
 returns-2 c =
     let l = c .before .before .before .before .accepted .ensures in
     record {
-      verdict-is = accepted-iff (asked (c .before .before .before .before .before .before .before .before .before .before .before .before .before .before .before .before)) .1 (passed (asked (c .before .before .before .before .before .before .before .before .before .before .before .before .before .before .before .before)) _ (c .before .before .before .before .before .before .before .before .before .check .ensures) (c .before .before .before .before .before .before .before .enum-told .given .1));
+      verdict-is = accepted-iff (asked (c .before .before .before .before .before .before .before .before .before .before .before .before .before .before .before .before .before)) .1 (passed (asked (c .before .before .before .before .before .before .before .before .before .before .before .before .before .before .before .before .before)) _ (c .before .before .before .before .before .before .before .before .before .check .ensures) (c .before .before .before .before .before .before .before .enum-told .given .1));
       answer = l .answer;
       list-is = l .list-is;
       scratch-length = l .scratch-length;

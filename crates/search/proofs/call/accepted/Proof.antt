@@ -18,10 +18,10 @@ use Rattle.search.proofs.call.accepted.Tie as tie
 returns : tie.Need-returns
 unfolding stopped
 returns c =
-    let s = c .before .before .before .before .before in
+    let s = c .before .before .before .before .before .before in
     let a = s .args in
     let text = textOf (now (a .text)) (a .n) in
-    let pattern = patternOf (now (a .pattern)) (a .m) in
+    let pattern = patternOf (now (a .pattern)) (now (a .fixed)) (a .m) in
     let there : a .mark .at .0 ≡ places text pattern = omega (arith, s .pre .inside) in
     let none : eqb (a .mark .at .0) (places text pattern) ≡ true = eq-eqb _ _ there in
     leaves-none (a .method) text pattern (a .mark .at .0) (a .budget) (now (a .list)) (now (a .scratch)) _ (omega (arith, s .pre .inside))
@@ -29,16 +29,15 @@ returns c =
 
 prepare-requires : tie.Need-prepare-requires
 prepare-requires c κs =
-    let s = c .before .before .before .before .before .before in
+    let s = c .before .before .before .before .before .before .before in
     (s .pre .pattern, s .pre .room)
-
-head-of-requires : tie.Need-head-of-requires
-head-of-requires c κs = search needs
 
 run-requires : tie.Need-run-requires
 run-requires c κs =
-    let s = c .before .before .before .before .before .before .before .before .before .before .before .before in
-    let made = c .before .before .before .before .before .prepare .ensures in (
+    let s = c .before .before .before .before .before .before .before .before .before .before .before .before .before in
+    let made = c .before .before .before .before .before .prepare .ensures in
+    let known = c .before .before .known-of .ensures in
+    rw (known .0, known .1) (
       record {
         few-bits = s .pre .few-bits;
         bytes-there = s .pre .bytes-there;
@@ -47,7 +46,7 @@ run-requires c κs =
         tables = made .tables;
         room = rw (made .size) (s .pre .room);
       },
-      (c .before .before .head-of .ensures, s .pre .inside),
+      (known .2, s .pre .inside),
     )
 
 add-answer : tie.Need-add-answer
@@ -55,12 +54,13 @@ add-answer c = search needs
 
 answer-requires : tie.Need-answer-requires
 answer-requires c κs =
-    let s = c .before .before .before .before .before .before .before .before .before .before .before .before .before .before .before in
+    let s = c .before .before .before .before .before .before .before .before .before .before .before .before .before .before .before .before in
+    let known = c .before .before .before .before .before .known-of .ensures in
     let a = s .args in
     let text = textOf (now (a .text)) (a .n) in
-    let pattern = patternOf (now (a .pattern)) (a .m) in
+    let pattern = patternOf (now (a .pattern)) (now (a .fixed)) (a .m) in
     few-hits (a .method) text pattern (a .mark .at .0) (a .budget) (now (a .list)) _ _ _ _ _ (s .pre .pattern .fit) (s .pre .inside) (s .pre .few-bits) (s .pre .pattern .some-bits)
-    (c .before .before .run .ensures)
+    (rw (known .0, known .1) at (c .before .before .run .ensures))
 
 same-length : tie.Need-same-length
 same-length c = search needs
@@ -70,13 +70,17 @@ same-length-2 c = search needs
 
 returns-2 : tie.Need-returns-2
 returns-2 c =
-    let s = c .before .before .before .before .before .before .before .before .before .before .before .before .before .before .before .before in
+    let s = c .before .before .before .before .before .before .before .before .before .before .before .before .before .before .before .before .before in
+    let known = c .before .before .before .before .before .before .known-of .ensures in
     let a = s .args in
     let text = textOf (now (a .text)) (a .n) in
-    let pattern = patternOf (now (a .pattern)) (a .m) in
+    let pattern = patternOf (now (a .pattern)) (now (a .fixed)) (a .m) in
     let end : a .n - a .m + 1 ≡ places text pattern = omega (arith, c .before .before .before .before .before .before .before .before .before .before .before .if1 .left) in
     leaves-run (a .method) text pattern (a .mark .at .0) (a .budget) (now (a .list)) (now (a .scratch)) _ _ _ _ _ _ _
-    (c .before .before .before .run .ensures) (rw end at (c .answer .ensures)) (c .before .before .before .before .before .before .before .before .before .prepare .ensures)
+    (rw (known .0, known .1) at (c .before .before .before .run .ensures)) (rw end at (c .answer .ensures)) (c .before .before .before .before .before .before .before .before .before .prepare .ensures)
+
+known-of-requires : tie.Need-known-of-requires
+known-of-requires c κs = search needs
 
 pub accepted-spec : {M : Type 1} → statement M
 accepted-spec =
@@ -84,7 +88,7 @@ accepted-spec =
     (tie.spec
     returns
     prepare-requires
-    head-of-requires
+    known-of-requires
     run-requires
     add-answer
     answer-requires

@@ -7,11 +7,11 @@ use Rattle.trials.proofs.calls.joined.Statement.{statement}
 use Rattle.trials.proofs.calls.joined.Tie as tie
 
 abbrev Inv-loop : tie.InvT-loop
-Inv-loop first x s list₀ scratch₀ c₀ t₀ left₀ list scratch c t left =
+Inv-loop first wild x s list₀ scratch₀ c₀ t₀ left₀ list scratch c t left =
     length list ≡ length list₀
 
 abbrev μ-loop : tie.MeasureT-loop
-μ-loop first x s list₀ scratch₀ c₀ t₀ left₀ list scratch c t left = left
+μ-loop first wild x s list₀ scratch₀ c₀ t₀ left₀ list scratch c t left = left
 
 slice-aggregate-fill64 : tie.Need-slice-aggregate-fill64 Inv-loop μ-loop
 slice-aggregate-fill64 c = search needs

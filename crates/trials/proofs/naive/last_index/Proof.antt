@@ -13,11 +13,11 @@ abbrev μ-loop : tie.MeasureT-loop
 loop-holds : tie.Need-loop-holds Inv-loop μ-loop
 loop-holds c = search needs
 
-sub-bit : tie.Need-sub-bit Inv-loop μ-loop
-sub-bit c = search needs
+sub-agrees : tie.Need-sub-agrees Inv-loop μ-loop
+sub-agrees c = search needs
 
-bit-requires : tie.Need-bit-requires Inv-loop μ-loop
-bit-requires c κs = search needs
+agrees-requires : tie.Need-agrees-requires Inv-loop μ-loop
+agrees-requires c κs = search needs
 
 returns : tie.Need-returns Inv-loop μ-loop
 returns c = search needs
@@ -41,8 +41,8 @@ last-index-spec =
     Inv-loop
     μ-loop
     loop-holds
-    sub-bit
-    bit-requires
+    sub-agrees
+    agrees-requires
     returns
     sub-k
     loop-less

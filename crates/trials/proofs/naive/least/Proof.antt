@@ -32,8 +32,8 @@ plus-requires-3 c κs = search needs
 minus-requires-3 : tie.Need-minus-requires-3 Inv-loop μ-loop
 minus-requires-3 c κs = search needs
 
-agree-requires : tie.Need-agree-requires Inv-loop μ-loop
-agree-requires c κs = search needs
+shows-requires : tie.Need-shows-requires Inv-loop μ-loop
+shows-requires c κs = search needs
 
 returns : tie.Need-returns Inv-loop μ-loop
 returns c = search needs
@@ -63,7 +63,7 @@ least-spec =
     minus-requires-2
     plus-requires-3
     minus-requires-3
-    agree-requires
+    shows-requires
     returns
     add-d
     loop-less

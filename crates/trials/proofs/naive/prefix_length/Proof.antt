@@ -19,8 +19,8 @@ loop-holds c = search needs
 minus-requires-2 : tie.Need-minus-requires-2 Inv-loop μ-loop
 minus-requires-2 c κs = search needs
 
-agree-requires : tie.Need-agree-requires Inv-loop μ-loop
-agree-requires c κs = search needs
+shows-requires : tie.Need-shows-requires Inv-loop μ-loop
+shows-requires c κs = search needs
 
 returns : tie.Need-returns Inv-loop μ-loop
 returns c = search needs
@@ -46,7 +46,7 @@ prefix-length-spec =
     minus-requires
     loop-holds
     minus-requires-2
-    agree-requires
+    shows-requires
     returns
     sub-r
     loop-less
