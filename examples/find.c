@@ -17,6 +17,7 @@
 
 static const char *const text1 = "011001001000100110100101000101001001";
 static const char *const pattern1 = "0100110100";
+static const char *const wild1 = "0100????00"; /* a question mark is a wild bit */
 static const char *const text2 = "110010110010110010110010110010110";
 static const char *const pattern2 = "110010110010110010110";
 
@@ -26,14 +27,14 @@ static const char *const stops[] = {"done", "full", "spent"};
 /* Tables of a call; what they held before does not matter. */
 static uint64_t scratch[MITONGORY_SCRATCH_CELLS];
 
-/* Packs characters 0 and 1 into bytes, the first bit leftmost, and returns the bit count. */
-static uint64_t pack(const char *bits, uint8_t *bytes)
+/* Packs characters into bytes, the first bit leftmost: a 1 for each that is among `ones`. Returns the bit count. */
+static uint64_t pack(const char *bits, const char *ones, uint8_t *bytes)
 {
     size_t i;
     for (i = 0; bits[i] != '\0'; i++) {
         if (i % 8 == 0)
             bytes[i / 8] = 0;
-        if (bits[i] == '1')
+        if (strchr(ones, bits[i]) != NULL)
             bytes[i / 8] = (uint8_t)(bytes[i / 8] | (0x80u >> (i % 8)));
     }
     return i;
@@ -56,16 +57,18 @@ static int refused(const char *what, uint32_t refusal)
 
 int main(void)
 {
-    uint8_t text[8] = {0}, pattern[8] = {0}, file[8] = {0};
+    static const uint8_t all_fixed[8] = {255, 255, 255, 255, 255, 255, 255, 255}; /* no bit is wild */
+    uint8_t text[8] = {0}, pattern[8] = {0}, fixed[8] = {0}, file[8] = {0};
     uint32_t list[CELLS] = {0}, mark = 0, all = 0, method, result;
     uint64_t answer[MITONGORY_ANSWER_CELLS] = {0}, n, m, i;
 
     /* Every method on the first paper, with cells for all occurrences. */
-    n = pack(text1, text);
-    m = pack(pattern1, pattern);
+    n = pack(text1, "1", text);
+    m = pack(pattern1, "1", pattern);
     for (method = MITONGORY_PLAIN; method <= MITONGORY_TAIL; method++) {
-        result = mitongory_search(text, sizeof text, n, pattern, sizeof pattern, m, method, 0, UINT32_MAX, list, CELLS,
-                                  scratch, MITONGORY_SCRATCH_CELLS, answer, MITONGORY_ANSWER_CELLS);
+        result = mitongory_search(text, sizeof text, n, pattern, sizeof pattern, all_fixed, sizeof all_fixed, m, method, 0,
+                                  UINT32_MAX, list, CELLS, scratch, MITONGORY_SCRATCH_CELLS, answer,
+                                  MITONGORY_ANSWER_CELLS);
         if (result != MITONGORY_OK) {
             refused(methods[method], result);
             continue;
@@ -75,13 +78,24 @@ int main(void)
         print_places(list, answer[MITONGORY_OCCURRENCES]);
     }
 
+    /* A field of the pattern is wild: it may hold anything in the text. The second run has a 1 for each fixed bit. */
+    m = pack(wild1, "1", pattern);
+    pack(wild1, "01", fixed);
+    result = mitongory_search(text, sizeof text, n, pattern, sizeof pattern, fixed, sizeof fixed, m, MITONGORY_HASH, 0,
+                              UINT32_MAX, list, CELLS, scratch, MITONGORY_SCRATCH_CELLS, answer, MITONGORY_ANSWER_CELLS);
+    if (result != MITONGORY_OK)
+        return refused("wild field", result);
+    printf("wild field: places:");
+    print_places(list, answer[MITONGORY_OCCURRENCES]);
+
     /* The second paper with one cell: each call goes on from the mark that the call before it left. */
-    n = pack(text2, text);
-    m = pack(pattern2, pattern);
+    n = pack(text2, "1", text);
+    m = pack(pattern2, "1", pattern);
     do {
         uint32_t cell = 0;
-        result = mitongory_search(text, sizeof text, n, pattern, sizeof pattern, m, MITONGORY_HASH, mark, UINT32_MAX, &cell,
-                                  1, scratch, MITONGORY_SCRATCH_CELLS, answer, MITONGORY_ANSWER_CELLS);
+        result = mitongory_search(text, sizeof text, n, pattern, sizeof pattern, all_fixed, sizeof all_fixed, m,
+                                  MITONGORY_HASH, mark, UINT32_MAX, &cell, 1, scratch, MITONGORY_SCRATCH_CELLS, answer,
+                                  MITONGORY_ANSWER_CELLS);
         if (result != MITONGORY_OK)
             return refused("one cell", result);
         mark = (uint32_t)answer[MITONGORY_MARK];

@@ -14,6 +14,7 @@
 
 static const uint8_t text[] = {0xcb, 0x2c, 0xb2, 0xcb, 0x00}; /* 33 bits: 110010 five times, then 110 */
 static const uint8_t pattern[] = {0xcb, 0x2c, 0xb0};          /* 21 bits: 110010 three times, then 110 */
+static const uint8_t fixed[] = {255, 255, 255};               /* none of them is wild */
 
 /* The positions of all sheets, one sheet after the other, and how many each sheet has. */
 static const uint32_t sheets[POSITIONS] = {0, 6, 12, 0, 7, 12};
@@ -32,8 +33,9 @@ int main(void)
     uint32_t key[KEY_CELLS] = {0}, report[SHEETS * MITONGORY_SHEET_CELLS] = {0}, result;
     uint64_t found[MITONGORY_ANSWER_CELLS] = {0}, totals[MITONGORY_SHEET_CELLS] = {0}, i;
 
-    result = mitongory_search(text, sizeof text, 33, pattern, sizeof pattern, 21, MITONGORY_SKIP, 0, UINT32_MAX, key,
-                              KEY_CELLS, scratch, MITONGORY_SCRATCH_CELLS, found, MITONGORY_ANSWER_CELLS);
+    result = mitongory_search(text, sizeof text, 33, pattern, sizeof pattern, fixed, sizeof fixed, 21, MITONGORY_SKIP, 0,
+                              UINT32_MAX, key, KEY_CELLS, scratch, MITONGORY_SCRATCH_CELLS, found,
+                              MITONGORY_ANSWER_CELLS);
     if (result != MITONGORY_OK)
         return refused(result);
     printf("key:");

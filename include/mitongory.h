@@ -1,6 +1,6 @@
 /*
- * Mitongory: exact search for a pattern of bits in a text of packed bits, by five methods, a file format for lists of
- * positions, and the marking of such lists against a key.
+ * Mitongory: exact search for a pattern of bits, some of which may be wild, in a text of packed bits, by five methods, a
+ * file format for lists of positions, and the marking of such lists against a key.
  *
  * These are the calls of the static library libmitongory.a for x86-64 Linux, which needs the C library and nothing else.
  * `make lib` builds it and `make install` installs it. A program is then built by
@@ -16,14 +16,15 @@
  *     {
  *         static const uint8_t text[] = {0xcb, 0x2c, 0xb2, 0xcb, 0x00}; // 33 bits: 110010 five times, then 110
  *         static const uint8_t pattern[] = {0xcb, 0x2c, 0xb0};          // 21 bits: 110010 three times, then 110
+ *         static const uint8_t fixed[] = {255, 255, 255};               // no bit of the pattern is wild
  *         static uint64_t scratch[MITONGORY_SCRATCH_CELLS];
  *         uint64_t answer[MITONGORY_ANSWER_CELLS] = {0}, i;
  *         uint32_t list[2] = {0}, mark = 0, result;
  *
  *         do {
- *             result = mitongory_search(text, sizeof text, 33, pattern, sizeof pattern, 21, MITONGORY_HASH, mark,
- *                                       UINT32_MAX, list, 2, scratch, MITONGORY_SCRATCH_CELLS, answer,
- *                                       MITONGORY_ANSWER_CELLS);
+ *             result = mitongory_search(text, sizeof text, 33, pattern, sizeof pattern, fixed, sizeof fixed, 21,
+ *                                       MITONGORY_HASH, mark, UINT32_MAX, list, 2, scratch, MITONGORY_SCRATCH_CELLS,
+ *                                       answer, MITONGORY_ANSWER_CELLS);
  *             if (result != MITONGORY_OK) {
  *                 fprintf(stderr, "%s\n", mitongory_result_text(result));
  *                 return 1;
@@ -61,6 +62,11 @@
  *
  * Bits. Bit p of a run of bytes is the bit of weight 2^(7 - p mod 8) in byte p div 8: the leftmost bit of a byte comes
  * first. Bits from the bit count on never matter. A place is a bit number, counted from 0.
+ *
+ * Patterns. A pattern of m bits is two runs of bytes, both packed so: `pattern` has the values of the bits, and `fixed` has
+ * a 1 for each bit that is fixed and a 0 for each that is wild. A fixed bit agrees with its own value only, a wild bit with
+ * 0 and with 1. The value that `pattern` has at a wild bit never matters. For a pattern without wild bits `fixed` is bytes
+ * of 255.
  */
 #ifndef MITONGORY_H
 #define MITONGORY_H
@@ -74,21 +80,21 @@ extern "C" {
 
 /* The version of this header. */
 #define MITONGORY_VERSION_MAJOR 0
-#define MITONGORY_VERSION_MINOR 5
+#define MITONGORY_VERSION_MINOR 6
 #define MITONGORY_VERSION_PATCH 0
 #define MITONGORY_VERSION_NUMBER \
     (MITONGORY_VERSION_MAJOR * 10000 + MITONGORY_VERSION_MINOR * 100 + MITONGORY_VERSION_PATCH)
-#define MITONGORY_VERSION "0.5.0"
+#define MITONGORY_VERSION "0.6.0"
 
 /*
  * The version of the library, as a number. The name holds the version of the interface, so that a program that was
  * compiled for one interface links with no other.
  */
-uint32_t mitongory_version_0_5(void);
+uint32_t mitongory_version_0_6(void);
 
 static inline uint32_t mitongory_version(void)
 {
-    return mitongory_version_0_5();
+    return mitongory_version_0_6();
 }
 
 #ifdef __GNUC__
@@ -96,7 +102,7 @@ static inline uint32_t mitongory_version(void)
  * Every program refers to the function, also one that never asks for the version. (A linker that is told to drop unused
  * data, by --gc-sections, drops this reference too.)
  */
-static uint32_t (*const mitongory_version_needed)(void) __attribute__((used)) = mitongory_version_0_5;
+static uint32_t (*const mitongory_version_needed)(void) __attribute__((used)) = mitongory_version_0_6;
 #endif
 
 /*
@@ -113,7 +119,7 @@ static uint32_t (*const mitongory_version_needed)(void) __attribute__((used)) = 
 #define MITONGORY_SHEETS 256
 #define MITONGORY_SHEET_CELLS 3
 
-/* What a call returns. 1 to 16 are the numbers of the requirements; 100 and 101 exist only in this interface. */
+/* What a call returns. 1 to 17 are the numbers of the requirements; 100 and 101 exist only in this interface. */
 enum mitongory_result {
     MITONGORY_OK = 0,
     MITONGORY_TEXT_TOO_LONG = 1,         /* n above 2^30 */
@@ -132,6 +138,7 @@ enum mitongory_result {
     MITONGORY_CELLS_MISSING = 14,        /* fewer cells than the file's count */
     MITONGORY_TOO_MANY_SHEETS = 15,      /* more than MITONGORY_SHEETS sheets */
     MITONGORY_COUNTS_DIFFER = 16,        /* the counts of the sheets do not add up to sheets_len */
+    MITONGORY_FIXED_BYTES_MISSING = 17,  /* fewer bytes of `fixed` than m bits take */
     MITONGORY_UNKNOWN_METHOD = 100,      /* the method is none of enum mitongory_method */
     MITONGORY_ANSWER_CELLS_MISSING = 101 /* fewer answer cells than the call needs */
 };
@@ -160,6 +167,7 @@ static inline const char *mitongory_result_text(uint32_t result)
     case MITONGORY_CELLS_MISSING: return "There are fewer cells than the file's count.";
     case MITONGORY_TOO_MANY_SHEETS: return "There are more than 256 sheets.";
     case MITONGORY_COUNTS_DIFFER: return "The counts of the sheets do not add up to the number of their positions.";
+    case MITONGORY_FIXED_BYTES_MISSING: return "The run of fixed bits has fewer bytes than the pattern's bits take.";
     case MITONGORY_UNKNOWN_METHOD: return "The method is none of the five.";
     case MITONGORY_ANSWER_CELLS_MISSING: return "There are fewer answer cells than the call needs.";
     default: return "No call returns this number.";
@@ -198,10 +206,11 @@ enum mitongory_marks {
 };
 
 /*
- * Lists, from the mark on and rising, the occurrences of the first m bits of `pattern` in the first n bits of `text`, as
- * far as the budget of steps and the cells of the list go. A first call has the mark 0; a later one goes on from
- * answer[MITONGORY_MARK]. An occurrence is a place from which all m bits of the pattern stand in the text, before bit n.
- * Occurrences may overlap. No search makes more than 2^30 steps, so a budget of UINT32_MAX is never spent.
+ * Lists, from the mark on and rising, the occurrences of a pattern of m bits in the first n bits of `text`, as far as the
+ * budget of steps and the cells of the list go. A first call has the mark 0; a later one goes on from
+ * answer[MITONGORY_MARK]. An occurrence is a place from which m bits of the text, all before bit n, agree with the bits of
+ * the pattern: a pattern all of whose bits are wild occurs at every place. Occurrences may overlap. No search makes more
+ * than 2^30 steps, so a budget of UINT32_MAX is never spent.
  *
  * Where an occurrence finds no free cell, the step that came to it is cut short and not counted, and the call stops with
  * MITONGORY_FULL and the mark at that occurrence. The next call's step from there counts as usual, unless it is cut too. So
@@ -210,28 +219,33 @@ enum mitongory_marks {
  * mark it stops so with the mark where it was, and going on with an empty list would never end. With a free cell and a
  * budget of one step or more a call moves the mark or is done.
  *
- *   text, pattern   packed bits; there may be more bytes than the bit counts need, and what is in them never matters
- *   method          one of enum mitongory_method
- *   list            any length; the places go to its front, and the other cells stay
- *   scratch         with any content, at least as many cells as mitongory_scratch_cells tells for the method and m;
- *                   MITONGORY_SCRATCH_CELLS are always enough. After an accepted call the cells before that figure
- *                   hold nothing of use, and those from it on stay. More cells than needed change no answer.
- *   answer          at least MITONGORY_ANSWER_CELLS cells: steps, occurrences, mark, stop
+ *   text      packed bits, as `pattern` and `fixed`; there may be more bytes of each than the bit counts need, and what is
+ *             in them never matters
+ *   pattern   the values of the pattern's bits; any at a wild bit
+ *   fixed     1 for a fixed bit of the pattern, 0 for a wild one; bytes of 255 for a pattern without wild bits
+ *   method    one of enum mitongory_method
+ *   list      any length; the places go to its front, and the other cells stay
+ *   scratch   with any content, at least as many cells as mitongory_scratch_cells tells for the method and m;
+ *             MITONGORY_SCRATCH_CELLS are always enough. After an accepted call the cells before that figure hold nothing of
+ *             use, and those from it on stay. More cells than needed change no answer.
+ *   answer    at least MITONGORY_ANSWER_CELLS cells: steps, occurrences, mark, stop
  *
- * Returns 0, or the first of 100, 101, 1, 2, 3, 4, 5, 6, 7 that applies.
+ * Returns 0, or the first of 100, 101, 1, 2, 3, 4, 17, 5, 6, 7 that applies.
  */
 uint32_t mitongory_search(const uint8_t *text, size_t text_len, uint64_t n,
-                          const uint8_t *pattern, size_t pattern_len, uint64_t m,
+                          const uint8_t *pattern, size_t pattern_len,
+                          const uint8_t *fixed, size_t fixed_len, uint64_t m,
                           uint32_t method, uint32_t mark, uint32_t budget,
                           uint32_t *list, size_t list_len,
                           uint64_t *scratch, size_t scratch_len,
                           uint64_t *answer, size_t answer_len);
 
 /*
- * How many cells of scratch a search by the method takes for a pattern of m bits. answer[0] is that figure:
+ * How many cells of scratch a search by the method takes for a pattern of m bits, whichever of them are wild. answer[0] is
+ * that figure:
  *
  *   plain   16 * ceil((m + 7) / 8)
- *   hash    256
+ *   hash    512
  *   skip    256 + m
  *   wide    2 * (63 + m)
  *   tail    2
@@ -244,13 +258,14 @@ uint32_t mitongory_search(const uint8_t *text, size_t text_len, uint64_t n,
 uint32_t mitongory_scratch_cells(uint32_t method, uint64_t m, uint64_t *answer, size_t answer_len);
 
 /*
- * The hash method's H(B) of the first m bits of `pattern` for an eight-bit value B: the least d from 0 to m such that bit
- * m - 8 - d + j of the pattern is bit j of B (bit 0 leftmost) for each j from 0 to 7 with m - 8 - d + j >= 0.
- * answer[0] is H(B).
+ * The hash method's H(B) of a pattern of m bits for an eight-bit value B: the least d from 0 to m such that bit
+ * m - 8 - d + j of the pattern agrees with bit j of B (bit 0 leftmost) for each j from 0 to 7 with m - 8 - d + j >= 0.
+ * answer[0] is H(B). `pattern` and `fixed` are as for a search.
  *
- * Returns 0, or the first of 101, 3, 4, 5 that applies.
+ * Returns 0, or the first of 101, 3, 4, 17, 5 that applies.
  */
-uint32_t mitongory_hash_value(const uint8_t *pattern, size_t pattern_len, uint64_t m, uint8_t value,
+uint32_t mitongory_hash_value(const uint8_t *pattern, size_t pattern_len,
+                              const uint8_t *fixed, size_t fixed_len, uint64_t m, uint8_t value,
                               uint64_t *answer, size_t answer_len);
 
 /*

@@ -1,8 +1,8 @@
 #!/usr/bin/env python3
 """Runs every example of docs/GUIDE.md and README.md: what stands in a fenced block is held to the library, to the program
-`hits` or to document 01's rules, or is a command whose output follows it. Each kind of block has a function below; a block of
-another kind, or with a line that no function reads, is a failure. Prints one line with the number of checks, or what differs
-and exits with 1.
+`hits` or to document 01's rules, or is a program or a command whose output follows it. Each kind of block has a function below;
+a block of another kind, or with a line that no function reads, is a failure. Prints one line with the number of checks, or what
+differs and exits with 1.
 
 usage: guide.py [PAGE...]"""
 
@@ -19,6 +19,7 @@ ARCHIVE = os.path.join(ROOT, "target", "lib", "libmitongory.a")
 HITS = os.path.join(ROOT, "target", "bin")
 METHODS = ["plain", "hash", "skip", "wide", "tail"]
 STOPS = ["done", "full", "spent"]
+WILD = "?"
 ALL = 2**32 - 1
 SECONDS = 300
 
@@ -42,13 +43,29 @@ def load(folder):
     return ctypes.CDLL(shared)
 
 
-def pack(bits):
-    padded = bits + "0" * (-len(bits) % 8)
+def pack(bits, padding="0"):
+    padded = bits + padding * (-len(bits) % 8)
     return bytes(int(padded[i : i + 8], 2) for i in range(0, len(padded), 8))
 
 
 def cells(kind, values):
     return (kind * max(len(values), 1))(*values), ctypes.c_size_t(len(values))
+
+
+def both_runs(pattern, free, second=None):
+    """A pattern of characters 0, 1 and ? as its two runs and its bit count. `free` is the value of the bits that never matter:
+    the wild ones, and in both runs those after the last one. The second run has so many bytes, where that is given."""
+    values = pack(pattern.replace(WILD, free), free)
+    fixed = pack("".join("0" if bit == WILD else "1" for bit in pattern), free)[:second]
+    return cells(ctypes.c_uint8, values) + cells(ctypes.c_uint8, fixed) + (ctypes.c_uint64(len(pattern)),)
+
+
+def either_way(call):
+    """What a call says, which is the same for both values of the bits that never matter."""
+    said = call("0")
+    if call("1") != said:
+        sys.exit("tests/guide.py: bits of a pattern matter that are wild, or after the last one")
+    return said
 
 
 class Library:
@@ -61,24 +78,30 @@ class Library:
         said = self.calls.mitongory_scratch_cells(ctypes.c_uint32(METHODS.index(method)), ctypes.c_uint64(m), *answer)
         return answer[0][0] if said == 0 else -said
 
-    def search(self, text, pattern, method, mark, budget, room, lent=None):
+    def search(self, text, pattern, method, mark, budget, room, second=None, lent=None):
         """A refusal's number, or steps, places, mark and stop. The scratch is as short as it may be, where it is not given."""
         lent = max(self.scratch_cells(method, len(pattern)), 0) if lent is None else lent
-        run = lambda bits: cells(ctypes.c_uint8, pack(bits)) + (ctypes.c_uint64(len(bits)),)
+        both = lambda free: both_runs(pattern, free, second)
+        return either_way(lambda free: self.searched(text, both(free), method, mark, budget, room, lent))
+
+    def searched(self, text, pattern, method, mark, budget, room, lent):
+        bits = cells(ctypes.c_uint8, pack(text)) + (ctypes.c_uint64(len(text)),)
         places = cells(ctypes.c_uint32, [7] * room)
         answer = cells(ctypes.c_uint64, [0] * 4)
         numbers = [ctypes.c_uint32(x) for x in (METHODS.index(method), mark, budget)]
         scratch = cells(ctypes.c_uint64, [5] * lent)
-        said = self.calls.mitongory_search(*run(text), *run(pattern), *numbers, *places, *scratch, *answer)
+        said = self.calls.mitongory_search(*bits, *pattern, *numbers, *places, *scratch, *answer)
         if said != 0:
             return said
         steps, count, mark, stop = answer[0]
         return steps, list(places[0])[:count], mark, STOPS[stop]
 
-    def hash_value(self, pattern, value):
+    def hash_value(self, pattern, byte):
+        return either_way(lambda free: self.hashed(both_runs(pattern, free), byte))
+
+    def hashed(self, pattern, byte):
         answer = cells(ctypes.c_uint64, [0])
-        bits = cells(ctypes.c_uint8, pack(pattern)) + (ctypes.c_uint64(len(pattern)),)
-        said = self.calls.mitongory_hash_value(*bits, ctypes.c_uint8(value), *answer)
+        said = self.calls.mitongory_hash_value(*pattern, ctypes.c_uint8(byte), *answer)
         return answer[0][0] if said == 0 else "refused %d" % said
 
     def write(self, positions):
@@ -117,16 +140,29 @@ def packed(block, where):
     check("".join(rows["bits"])[: int(rows["count"][0])], rows["string"][0], where)
 
 
-CALL = re.compile(r"^(\w+) +mark (\d+) +budget (\w+) +cells (\d+) +(?:scratch (\d+) +)?-> +(.*)$")
+def runs(block, where):
+    """A pattern's two runs in bits; how many of them count, and those as characters, a wild one as ?."""
+    rows = dict((line.split()[0], line.split()[1:]) for line in block)
+    check(sorted(rows), ["byte", "count", "fixed", "pattern", "string"], where)
+    for run in ("pattern", "fixed"):
+        check([str(i) for i in range(len(rows[run]))], rows["byte"], where)
+        check({len(bits) for bits in rows[run]}, {8}, where)
+    bits = zip("".join(rows["pattern"]), "".join(rows["fixed"]))
+    characters = "".join(value if fixed == "1" else WILD for value, fixed in bits)
+    check(characters[: int(rows["count"][0])], rows["string"][0], where)
+
+
+CALL = re.compile(r"^(\w+) +mark (\d+) +budget (\w+) +cells (\d+) +(?:fixed (\d+) +)?(?:scratch (\d+) +)?-> +(.*)$")
 
 
 def calls(block, where):
-    """A text, a pattern, and calls with their answers."""
+    """A text, a pattern, and calls with their answers; perhaps with the bytes of the second run, and the cells of scratch."""
     text, pattern = (line.split()[1] for line in block[:2])
     for line in block[2:]:
-        method, mark, budget, room, lent, answer = CALL.match(line).groups()
+        method, mark, budget, room, second, lent, answer = CALL.match(line).groups()
         budget = ALL if budget == "all" else int(budget)
-        said = library.search(text, pattern, method, int(mark), budget, int(room), lent and int(lent))
+        lengths = [length and int(length) for length in (second, lent)]
+        said = library.search(text, pattern, method, int(mark), budget, int(room), *lengths)
         if isinstance(said, int):
             check("refused %d" % said, answer, where)
             continue
@@ -157,8 +193,9 @@ def rows(block, where):
         name, i, row, word, mask = re.match(r"^(row) (\d) +([01 ]+?) +(mask) +([01 ]+)$", line).groups()
         i, m = int(i), len(pattern)
         at = [8 * h - i + j for h in range((m + i + 7) // 8) for j in range(8)]
-        check("".join(pattern[k] if 0 <= k < m else "0" for k in at), row.replace(" ", ""), where)
-        check("".join("1" if 0 <= k < m else "0" for k in at), mask.replace(" ", ""), where)
+        fixed = [0 <= k < m and pattern[k] != WILD for k in at]
+        check("".join(pattern[k] if here else "0" for k, here in zip(at, fixed)), row.replace(" ", ""), where)
+        check("".join("1" if here else "0" for here in fixed), mask.replace(" ", ""), where)
 
 
 def scratches(block, where):
@@ -214,6 +251,26 @@ def program(block, where, folder, printed):
     subprocess.run(["gcc"] + strict + [source, ARCHIVE, "-o", binary], check=True, timeout=SECONDS)
     done = subprocess.run([binary], stdout=subprocess.PIPE, timeout=SECONDS, check=True)
     check(done.stdout.decode().splitlines(), printed, where)
+
+
+def rattle(block, where, folder, printed):
+    """A Rattle program over the crates, and what it prints: run with no proof, by the interpreter and compiled."""
+    name = "guide"
+    files = {
+        "crates.txt": page("crates.txt") + "%s: lines search rules bits io libc\n" % name,
+        "crates/%s/src/main.rt" % name: "\n".join(block) + "\n",
+        "crates/%s/stdout" % name: "".join(line + "\n" for line in printed),
+    }
+    with tempfile.TemporaryDirectory(dir=folder) as repository:
+        os.makedirs(os.path.join(repository, "crates", name, "src"))
+        for crate in os.listdir(os.path.join(ROOT, "crates")):
+            os.symlink(os.path.join(ROOT, "crates", crate), os.path.join(repository, "crates", crate))
+        for path, text in files.items():
+            with open(os.path.join(repository, path), "w") as f:
+                f.write(text)
+        piped = dict(stdout=subprocess.PIPE, stderr=subprocess.STDOUT)
+        done = subprocess.run(["rt", "try", name], timeout=SECONDS, cwd=repository, **piped)
+    check("" if done.returncode == 0 else done.stdout.decode(), "", where)
 
 
 def console(block, where):
@@ -280,10 +337,13 @@ def refusals():
         defined = named(page(path), r"^%s (\w+) = (\d+)$" % name)
         check(len(defined) > 1, True, "refusals of " + path)
         check(defined, {number: rules.get(number) for number in defined}, "refusals of %s against the guide" % path)
+    search = named(page("crates/search/specs/Verdict.antt"), r"^numberOfRefusal (\w+) = (\d+)$")
+    check(list(search), [number for number in guide if number in search], "the order of a search's refusals")
 
 
 SIMPLE = {
     "packed": packed,
+    "runs": runs,
     "calls": calls,
     "rows": rows,
     "hash": hash_values,
@@ -292,6 +352,9 @@ SIMPLE = {
     "sitting": sittings,
     "console": console,
 }
+
+
+PROGRAMS = {"c": program, "rattle": rattle}
 
 
 def run(path, folder):
@@ -304,10 +367,11 @@ def run(path, folder):
             SIMPLE[kind[0]]([line for line in block if line], where)
         elif kind[:1] == ["steps"]:
             steps(block, where, kind[1])
-        elif kind == ["c"]:
-            pending = block
+        elif len(kind) == 1 and kind[0] in PROGRAMS:
+            pending = PROGRAMS[kind[0]], block
         elif kind == ["output"]:
-            program(pending, where, folder, block)
+            run_it, source = pending
+            run_it(source, where, folder, block)
             pending = None
         elif kind not in (["rust"], ["text"]):  # examples of the Rust documentation, which runs them; and no example
             sys.exit("tests/guide.py: %s: no test runs a block of the kind '%s'" % (where, " ".join(kind)))

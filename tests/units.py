@@ -23,7 +23,8 @@ LEFT_OUT = ["draws", "trials", "list_trials"]
 
 # Lines of code elsewhere that are no conversion between the two units, each with its reason: (file, line, reason).
 EXCEPTIONS = [
-    ("tail/src/lib.rt", "& ((y << 3) ^ k.b2)", "the window moved up for the third of eight bits of the pattern, by 1 to 8 bits in turn"),
+    ("tail/src/lib.rt", "& ((y << 3) ^ k.b2)", "the window moved up for the third of four bits of the pattern, by 1 to 4 bits in turn"),
+    ("tail/src/lib.rt", "& ((z << 3) ^ k.b6)", "the same for the other four bits"),
 ]
 
 

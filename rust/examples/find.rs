@@ -1,5 +1,5 @@
-//! Finds a pattern in a text with each method, and shows where it stands.
-use mitongory::{search, Bits, Mark, Method, Occurrences, Scratch};
+//! Finds a pattern in a text with each method, and shows where it stands; then the same with a field of it wild.
+use mitongory::{search, Bits, Mark, Method, Occurrences, Scratch, WildBits};
 use std::error::Error;
 
 fn main() -> Result<(), Box<dyn Error>> {
@@ -17,6 +17,11 @@ fn main() -> Result<(), Box<dyn Error>> {
 
     for place in Occurrences::new(text, pattern, Method::Hash)? {
         println!("{long}\n{:place$}{short}", "", place = place as usize);
+    }
+
+    let wild: WildBits = "0100??0100".parse()?;
+    for place in Occurrences::new(text, wild.pattern()?, Method::Hash)? {
+        println!("{long}\n{:place$}{wild}", "", place = place as usize);
     }
     Ok(())
 }

@@ -1,5 +1,5 @@
 //! Owned packed bits, made from characters 0 and 1 or from truth values.
-use crate::packed::Packed;
+use crate::packed::{self, Packed};
 use crate::pattern::Pattern;
 use crate::refusal::Refusal;
 use crate::text::Text;
@@ -7,7 +7,8 @@ use std::error::Error;
 use std::fmt;
 use std::str::FromStr;
 
-/// Packed bits that own their bytes; [`Text`] and [`Pattern`] borrow them.
+/// Packed bits that own their bytes; [`Text`] and [`Pattern`] borrow them. For a pattern with wild bits there are
+/// [`WildBits`](crate::WildBits).
 ///
 /// ```
 /// use mitongory::Bits;
@@ -98,7 +99,7 @@ impl Bits {
         Text::new(&self.bytes, self.bit_count)
     }
 
-    /// The bits as a pattern.
+    /// The bits as a pattern, every one fixed.
     ///
     /// ```
     /// use mitongory::{Bits, Refusal};
@@ -113,7 +114,7 @@ impl Bits {
         Pattern::new(&self.bytes, self.bit_count)
     }
 
-    fn packed(&self) -> Packed<'_> {
+    pub(crate) fn packed(&self) -> Packed<'_> {
         Packed { bytes: &self.bytes, bit_count: self.bit_count }
     }
 }
@@ -148,7 +149,7 @@ impl FromStr for Bits {
         let bit = |(at, character)| match character {
             '0' => Ok(false),
             '1' => Ok(true),
-            _ => Err(NotABit { at, character }),
+            _ => Err(NotABit { at, character, or_wild: false }),
         };
         characters.char_indices().map(bit).collect()
     }
@@ -164,19 +165,21 @@ impl fmt::Display for Bits {
 /// The bit count and the first 64 bits.
 impl fmt::Debug for Bits {
     fn fmt(&self, f: &mut fmt::Formatter<'_>) -> fmt::Result {
-        self.packed().debug("Bits", f)
+        packed::debug("Bits", self.bit_count, self.packed().characters(), f)
     }
 }
 
-/// A character of a string is neither 0 nor 1.
+/// A character of a string is no bit: neither 0 nor 1, and for [`WildBits`](crate::WildBits) not ? either.
 #[derive(Clone, Copy, Debug, PartialEq, Eq)]
 pub struct NotABit {
-    at: usize,
-    character: char,
+    pub(crate) at: usize,
+    pub(crate) character: char,
+    /// A ? would have been one too.
+    pub(crate) or_wild: bool,
 }
 
 impl NotABit {
-    /// The character's index in the string, from 0. Those before it are 0 and 1, so it counts characters and bytes alike.
+    /// The character's index in the string, from 0. Those before it are bits, so it counts characters and bytes alike.
     #[must_use]
     pub const fn at(&self) -> usize {
         self.at
@@ -191,7 +194,8 @@ impl NotABit {
 
 impl fmt::Display for NotABit {
     fn fmt(&self, f: &mut fmt::Formatter<'_>) -> fmt::Result {
-        write!(f, "the character {:?} at index {} is neither 0 nor 1", self.character, self.at)
+        let why = if self.or_wild { "none of 0, 1 and ?" } else { "neither 0 nor 1" };
+        write!(f, "the character {:?} at index {} is {why}", self.character, self.at)
     }
 }
 

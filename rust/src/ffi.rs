@@ -18,13 +18,15 @@ pub const ANSWER_CELLS_MISSING: u32 = 101;
 // tests/library/boundary.rs tests them.
 mod raw {
     extern "C" {
-        pub(super) fn mitongory_version_0_5() -> u32;
+        pub(super) fn mitongory_version_0_6() -> u32;
         pub(super) fn mitongory_search(
             text: *const u8,
             text_len: usize,
             n: u64,
             pattern: *const u8,
             pattern_len: usize,
+            fixed: *const u8,
+            fixed_len: usize,
             m: u64,
             method: u32,
             mark: u32,
@@ -40,6 +42,8 @@ mod raw {
         pub(super) fn mitongory_hash_value(
             pattern: *const u8,
             pattern_len: usize,
+            fixed: *const u8,
+            fixed_len: usize,
             m: u64,
             value: u8,
             answer: *mut u64,
@@ -92,21 +96,23 @@ mod raw {
 
 // Kept in every program, used or not, so that the linker refuses an archive of another version.
 #[used]
-static VERSION: unsafe extern "C" fn() -> u32 = raw::mitongory_version_0_5;
+static VERSION: unsafe extern "C" fn() -> u32 = raw::mitongory_version_0_6;
 
 /// The archive's version, as major * 10,000 + minor * 100 + patch.
 #[must_use]
 pub fn version() -> u32 {
     // SAFETY: the function takes nothing and returns a number.
-    unsafe { raw::mitongory_version_0_5() }
+    unsafe { raw::mitongory_version_0_6() }
 }
 
-/// A search call. Method 0 is plain, 1 hash, 2 skip, 3 wide, 4 tail; the answer's four cells are steps, occurrences,
-/// mark and how the call stopped (0 done, 1 full, 2 spent).
+/// A search call. A 1 in the run `fixed` is a bit of the pattern that is compared, a 0 one that is wild. Method 0 is plain,
+/// 1 hash, 2 skip, 3 wide, 4 tail; the answer's four cells are steps, occurrences, mark and how the call stopped (0 done,
+/// 1 full, 2 spent).
 pub fn search(
     text: &[u8],
     n: u64,
     pattern: &[u8],
+    fixed: &[u8],
     m: u64,
     method: u32,
     mark: u32,
@@ -123,6 +129,8 @@ pub fn search(
             n,
             pattern.as_ptr(),
             pattern.len(),
+            fixed.as_ptr(),
+            fixed.len(),
             m,
             method,
             mark,
@@ -144,9 +152,20 @@ pub fn scratch_cells(method: u32, m: u64, answer: &mut [u64]) -> u32 {
 }
 
 /// H of a value for a pattern, in the answer's first cell.
-pub fn hash_value(pattern: &[u8], m: u64, value: u8, answer: &mut [u64]) -> u32 {
+pub fn hash_value(pattern: &[u8], fixed: &[u8], m: u64, value: u8, answer: &mut [u64]) -> u32 {
     // SAFETY: each pointer and length come from one live slice, and the `&mut` slice overlaps nothing.
-    unsafe { raw::mitongory_hash_value(pattern.as_ptr(), pattern.len(), m, value, answer.as_mut_ptr(), answer.len()) }
+    unsafe {
+        raw::mitongory_hash_value(
+            pattern.as_ptr(),
+            pattern.len(),
+            fixed.as_ptr(),
+            fixed.len(),
+            m,
+            value,
+            answer.as_mut_ptr(),
+            answer.len(),
+        )
+    }
 }
 
 /// Eight bits from a bit number on, in the answer's first cell.

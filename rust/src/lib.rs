@@ -1,9 +1,9 @@
 //! Exact search for a pattern of bits in packed bits, over a proved library.
 //!
 //! The crate lists every place where a *pattern* of 1 to 2,048 bits occurs in a *text* of up to 2^30 bits. A place is a
-//! bit number: a pattern may occur from any bit on, not only where a byte begins, and occurrences may overlap. There are
-//! five methods of searching, which find the same occurrences, and a file format for lists of positions. Such lists can
-//! be marked against a key.
+//! bit number: a pattern may occur from any bit on, not only where a byte begins, and occurrences may overlap. Bits of a
+//! pattern may be wild, and then any bit of the text will do there. There are five methods of searching, which find the
+//! same occurrences, and a file format for lists of positions. Such lists can be marked against a key.
 //!
 //! The work is done by a library in which every function is proved to meet its contract. It is linked as a static
 //! archive. This crate gives its calls Rust types and adds no rule of its own. It has no dependencies.
@@ -56,6 +56,41 @@
 //! # Ok(())
 //! # }
 //! ```
+//!
+//! # Wild bits
+//!
+//! A bit of a pattern is fixed or *wild*. The text has to have the fixed bits; at a wild one it may have either value. So
+//! a word with a field that differs, such as an address, is one pattern. [`WildBits`] is made from characters 0, 1 and ?,
+//! where each ? is a wild bit:
+//!
+//! ```
+//! use mitongory::{Bits, Method, Occurrences, WildBits};
+//!
+//! # fn main() -> Result<(), Box<dyn std::error::Error>> {
+//! let long: Bits = "101100000100101101100100".parse()?;
+//! let word: WildBits = "1011????01".parse()?;
+//! let places: Vec<u32> = Occurrences::new(long.text()?, word.pattern()?, Method::Hash)?.collect();
+//! assert_eq!(places, [0, 12]);
+//! # Ok(())
+//! # }
+//! ```
+//!
+//! [`Pattern::with_fixed`] takes bits that are packed already: the pattern's bytes, and a second run of as many bits, with
+//! a 1 for fixed and a 0 for wild. What the pattern's bytes have at a wild bit never matters.
+//!
+//! ```
+//! use mitongory::{Method, Occurrences, Pattern, Text};
+//!
+//! # fn main() -> Result<(), mitongory::Refusal> {
+//! let text = Text::from_bytes(b"a bit, and a bat more")?;
+//! let pattern = Pattern::with_fixed(b"b.t", &[0xff, 0x00, 0xff], 24)?;
+//! assert!(Occurrences::new(text, pattern, Method::Skip)?.eq([2 * 8, 13 * 8]));
+//! assert!(pattern.is_fixed(7) && !pattern.is_fixed(8));
+//! # Ok(())
+//! # }
+//! ```
+//!
+//! A pattern of wild bits alone occurs at every place.
 //!
 //! # A call with a mark and a budget
 //!
@@ -143,9 +178,10 @@
 //!
 //! For every input, refusals included, each call of the library answers as its short definition says and leaves every
 //! buffer as that says; the calls of a search, joined, list every occurrence once (see [`search`]); and what a call
-//! answers does not depend on its scratch, if that has enough cells (see [`Scratch`]). The proofs end at the archive.
-//! This crate's Rust code, its declarations of the calls, and the compiler and linker are not proved: the crate is
-//! tested against a naive search, a naive codec and naive marking. One module has `unsafe` code, around the calls.
+//! answers depends neither on its scratch, if that has enough cells (see [`Scratch`]), nor on the values of wild bits (see
+//! [`Pattern`]). The proofs end at the archive. This crate's Rust code, its declarations of the calls, and the compiler
+//! and linker are not proved: the crate is tested against a naive search, a naive codec and naive marking. One module has
+//! `unsafe` code, around the calls.
 
 mod bits;
 mod call;
@@ -160,6 +196,7 @@ pub mod positions;
 mod refusal;
 mod search;
 mod text;
+mod wild_bits;
 
 pub use bits::{Bits, NotABit};
 pub use method::{Method, UnknownMethod};
@@ -168,6 +205,7 @@ pub use pattern::Pattern;
 pub use refusal::Refusal;
 pub use search::{search, Answer, Mark, Scratch, Stop, SCRATCH_CELLS};
 pub use text::Text;
+pub use wild_bits::WildBits;
 
 /// The examples of the crate's page are run as well.
 #[cfg(doctest)]

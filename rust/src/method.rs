@@ -10,8 +10,9 @@ use std::str::FromStr;
 ///
 /// On texts with about as many ones as zeros, skip is the fastest for patterns from 15 bits on, hash as fast at some
 /// hundred bits, and plain the fastest below 15. Where 90 % of the bits are zeros, plain is the fastest from 15 bits to
-/// some hundred, and hash above. Tail is the fastest on none of these: choose it for its steps. `docs/PERFORMANCE.md`
-/// in the repository has the measurements.
+/// some hundred, and hash above. Tail is the fastest on none of these: choose it for its steps. This is so for patterns
+/// with every bit fixed: with wild bits hash and tail move on less far, and skip has more places to compare.
+/// `docs/PERFORMANCE.md` in the repository has the measurements.
 #[derive(Clone, Copy, Debug, PartialEq, Eq, Hash)]
 #[repr(u32)]
 #[non_exhaustive]
@@ -82,15 +83,15 @@ impl Method {
         }
     }
 
-    /// How many 64-bit cells of scratch the method takes for a pattern of so many bits, whatever bits they are. With `m`
-    /// for `bit_count`, plain takes 16 for each of the bytes that `m + 7` bits take, hash 256, skip `256 + m`, wide
-    /// `2 * (63 + m)`, and tail 2. No figure is above [`SCRATCH_CELLS`](crate::SCRATCH_CELLS).
+    /// How many 64-bit cells of scratch the method takes for a pattern of so many bits, whatever bits they are and however
+    /// many of them are wild. With `m` for `bit_count`, plain takes 16 for each of the bytes that `m + 7` bits take, hash
+    /// 512, skip `256 + m`, wide `2 * (63 + m)`, and tail 2. No figure is above [`SCRATCH_CELLS`](crate::SCRATCH_CELLS).
     ///
     /// ```
     /// use mitongory::{Method, Refusal};
     ///
     /// assert_eq!(Method::Plain.scratch_cells(48), Ok(112));
-    /// assert_eq!(Method::Hash.scratch_cells(48), Ok(256));
+    /// assert_eq!(Method::Hash.scratch_cells(48), Ok(512));
     /// assert_eq!(Method::Skip.scratch_cells(48), Ok(304));
     /// assert_eq!(Method::Wide.scratch_cells(48), Ok(222));
     /// assert_eq!(Method::Tail.scratch_cells(48), Ok(2));

@@ -7,8 +7,8 @@ use crate::text::Text;
 use std::fmt;
 use std::iter::FusedIterator;
 
-/// How many occurrences a call may write. Each call makes its tables anew, up to two microseconds of work; over so many
-/// occurrences that is little.
+/// How many occurrences a call may write. Each call makes its tables anew, some microseconds of work at most; over so
+/// many occurrences that is little.
 const CELLS: usize = 1024;
 
 /// The budget of each call that `next` makes: some milliseconds of work, so that a call makes its tables seldom and yet

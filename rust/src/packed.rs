@@ -20,28 +20,50 @@ macro_rules! shows_its_bits {
             /// The bytes that were lent, all of them: also those after the last bit.
             #[must_use]
             pub const fn bytes(&self) -> &'a [u8] {
-                self.0.bytes
+                self.bits.bytes
             }
 
             /// How many bits there are.
             #[must_use]
             pub const fn bit_count(&self) -> u64 {
-                self.0.bit_count
+                self.bits.bit_count
             }
         }
 
         impl std::fmt::Debug for $name<'_> {
             fn fmt(&self, f: &mut std::fmt::Formatter<'_>) -> std::fmt::Result {
-                self.0.debug(stringify!($name), f)
+                crate::packed::debug(stringify!($name), self.bit_count(), self.characters(), f)
             }
         }
     };
 }
 pub(crate) use shows_its_bits;
 
+/// The character for a wild bit of a pattern.
+pub(crate) const WILD: char = '?';
+
+/// The bits of a pattern as characters 0 and 1, with a mark for those that are not fixed.
+pub(crate) fn wild_characters<'a>(bits: Packed<'a>, fixed: Packed<'a>) -> impl Iterator<Item = char> + 'a {
+    bits.characters().zip(fixed.characters()).map(|(bit, fixed)| if fixed == '1' { bit } else { WILD })
+}
+
 /// How many bits there are in whole bytes.
 pub(crate) const fn bits_in(bytes: &[u8]) -> u64 {
     (bytes.len() as u64).saturating_mul(8)
+}
+
+/// The `Debug` form of a type with these bits: the bit count and the first bits.
+pub(crate) fn debug(
+    name: &str,
+    bit_count: u64,
+    characters: impl Iterator<Item = char>,
+    f: &mut fmt::Formatter<'_>,
+) -> fmt::Result {
+    let mut bits: String = characters.take(SHOWN).collect();
+    if bit_count > SHOWN as u64 {
+        bits.push_str("...");
+    }
+    f.debug_struct(name).field("bit_count", &bit_count).field("bits", &format_args!("{bits}")).finish()
 }
 
 impl<'a> Packed<'a> {
@@ -60,7 +82,7 @@ impl<'a> Packed<'a> {
     }
 
     /// The bytes that the bits fill whole, and the bits after these, with zeros in place of the padding.
-    fn parts(self) -> (&'a [u8], u8) {
+    pub(crate) fn parts(self) -> (&'a [u8], u8) {
         let (whole, rest) = self.bytes.split_at((self.bit_count / 8) as usize);
         let last = match self.bit_count % 8 {
             0 => 0,
@@ -69,21 +91,14 @@ impl<'a> Packed<'a> {
         (whole, last)
     }
 
-    /// The bits as characters 0 and 1.
-    pub(crate) fn characters(self) -> impl Iterator<Item = char> + 'a {
-        (0..self.bit_count).map(move |p| match self.bytes[(p / 8) as usize] & 0x80 >> (p % 8) {
-            0 => '0',
-            _ => '1',
-        })
+    /// Whether a bit is a 1; one from the count on is not asked for.
+    pub(crate) const fn is_one(self, index: u64) -> bool {
+        self.bytes[(index / 8) as usize] & 0x80 >> (index % 8) != 0
     }
 
-    /// The `Debug` form of a type with these bits: the bit count and the first bits.
-    pub(crate) fn debug(self, name: &str, f: &mut fmt::Formatter<'_>) -> fmt::Result {
-        let mut bits: String = self.characters().take(SHOWN).collect();
-        if self.bit_count > SHOWN as u64 {
-            bits.push_str("...");
-        }
-        f.debug_struct(name).field("bit_count", &self.bit_count).field("bits", &format_args!("{bits}")).finish()
+    /// The bits as characters 0 and 1.
+    pub(crate) fn characters(self) -> impl Iterator<Item = char> + 'a {
+        (0..self.bit_count).map(move |index| if self.is_one(index) { '1' } else { '0' })
     }
 }
 

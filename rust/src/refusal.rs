@@ -4,8 +4,8 @@ use std::fmt;
 
 /// Why a call was refused. A refused call changes nothing: no cell, no byte, no mark.
 ///
-/// A search is refused with the lowest number that applies, a file with its first fault from front to back, a sitting
-/// with the first of 15, 16, 8 and 9. Where none applies, the call is accepted.
+/// A search is refused with the first of 1, 2, 3, 4, 17, 5, 6 and 7 that applies, a file with its first fault from front
+/// to back, a sitting with the first of 15, 16, 8 and 9. Where none applies, the call is accepted.
 ///
 /// ```
 /// use mitongory::{Pattern, Refusal};
@@ -53,6 +53,8 @@ pub enum Refusal {
     /// The counts of the sheets do not add up to the number of their positions.
     /// [`mark_sitting`](crate::marking::mark_sitting) has the right counts always.
     CountsDiffer = 16,
+    /// The run that says which bits of the pattern are fixed has fewer bytes than the pattern's bits take.
+    FixedBytesMissing = 17,
 }
 
 impl Refusal {
@@ -61,7 +63,7 @@ impl Refusal {
     /// ```
     /// use mitongory::Refusal;
     ///
-    /// assert!(Refusal::ALL.iter().map(|refusal| refusal.number()).eq(1..=16));
+    /// assert!(Refusal::ALL.iter().map(|refusal| refusal.number()).eq(1..=17));
     /// ```
     pub const ALL: &'static [Refusal] = &[
         Refusal::TextTooLong,
@@ -80,9 +82,10 @@ impl Refusal {
         Refusal::CellsMissing,
         Refusal::TooManySheets,
         Refusal::CountsDiffer,
+        Refusal::FixedBytesMissing,
     ];
 
-    /// The number in the requirements, 1 to 16.
+    /// The number in the requirements, 1 to 17.
     ///
     /// ```
     /// assert_eq!(mitongory::Refusal::BeyondEnd.number(), 6);
@@ -132,6 +135,9 @@ impl fmt::Display for Refusal {
             Refusal::CellsMissing => "there are fewer cells than the file's count",
             Refusal::TooManySheets => "there are more than 256 sheets",
             Refusal::CountsDiffer => "the counts of the sheets do not add up to the number of their positions",
+            Refusal::FixedBytesMissing => {
+                "the run that says which bits of the pattern are fixed has fewer bytes than these take"
+            }
         };
         write!(f, "refusal {}: {why}", self.number())
     }

@@ -98,15 +98,15 @@ impl Scratch {
     ///
     /// # fn main() -> Result<(), Refusal> {
     /// let (text, pattern) = (Text::from_bytes(b"a bit, and a bit more")?, Pattern::from_bytes(b"bit")?);
-    /// let mut scratch = Scratch::for_search(Method::Hash, pattern)?;
-    /// assert_eq!(scratch.cell_count(), 256);
+    /// let mut scratch = Scratch::for_search(Method::Skip, pattern)?;
+    /// assert_eq!(scratch.cell_count(), 256 + 24);
     ///
     /// let (mut list, all) = ([0; 8], u32::MAX);
-    /// let answer = search(text, pattern, Method::Hash, Mark::START, all, &mut list, &mut scratch)?;
+    /// let answer = search(text, pattern, Method::Skip, Mark::START, all, &mut list, &mut scratch)?;
     /// assert_eq!(list[..answer.occurrences], [2 * 8, 13 * 8]);
     ///
-    /// // Skip takes 256 + 24 cells for the pattern's 24 bits.
-    /// let refused = search(text, pattern, Method::Skip, Mark::START, all, &mut list, &mut scratch);
+    /// // Hash takes 512 cells for every pattern.
+    /// let refused = search(text, pattern, Method::Hash, Mark::START, all, &mut list, &mut scratch);
     /// assert_eq!(refused, Err(Refusal::ScratchTooShort));
     /// # Ok(())
     /// # }
@@ -150,8 +150,8 @@ impl fmt::Debug for Scratch {
 /// other cells of the list stay as they were.
 ///
 /// The call allocates nothing and keeps nothing: the mark in the answer is all that the next call needs. Each call makes
-/// the method's tables anew, which took two microseconds or less where it was measured, so budgets of ten thousand steps
-/// and more lose little by it.
+/// the method's tables anew, which took two microseconds or less where it was measured with every bit fixed, and some
+/// microseconds with wild bits, so budgets of ten thousand steps and more lose little by it.
 ///
 /// The call stops early where an occurrence finds no free cell: with [`Stop::Full`], and the step that was cut is not
 /// counted. It may then have made no step and yet have written places and moved the mark, so it is the mark that tells
@@ -209,6 +209,7 @@ pub fn search(
         text.bytes(),
         text.bit_count(),
         pattern.bytes(),
+        pattern.fixed(),
         pattern.bit_count(),
         method.number(),
         mark.place(),

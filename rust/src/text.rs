@@ -26,7 +26,9 @@ use crate::{call, ffi};
 /// assert_eq!(format!("{text:?}"), "Text { bit_count: 3, bits: 101 }");
 /// ```
 #[derive(Clone, Copy, PartialEq, Eq, Hash)]
-pub struct Text<'a>(Packed<'a>);
+pub struct Text<'a> {
+    bits: Packed<'a>,
+}
 
 impl<'a> Text<'a> {
     /// The first `bit_count` bits of `bytes`.
@@ -44,7 +46,8 @@ impl<'a> Text<'a> {
     pub fn new(bytes: &'a [u8], bit_count: u64) -> Result<Text<'a>, Refusal> {
         // Of the call for eight bits, refusals 1 and 2 speak of the text, and 6 of the place.
         let said = call::check(ffi::eight_bits(bytes, bit_count, 0, &mut [0]));
-        Packed::judged(bytes, bit_count, said, Refusal::BeyondEnd).map(Text)
+        let bits = Packed::judged(bytes, bit_count, said, Refusal::BeyondEnd)?;
+        Ok(Text { bits })
     }
 
     /// All bits of `bytes`, eight for each.
@@ -75,6 +78,10 @@ impl<'a> Text<'a> {
     /// [`Refusal::BeyondEnd`] where there are fewer than eight bits from the place on.
     pub fn eight_bits(&self, place: u32) -> Result<u8, Refusal> {
         call::answer(|cell| ffi::eight_bits(self.bytes(), self.bit_count(), place, cell))
+    }
+
+    fn characters(self) -> impl Iterator<Item = char> + 'a {
+        self.bits.characters()
     }
 }
 

@@ -3,13 +3,26 @@
 use crate::rules::{pattern_bits, METHODS};
 use mitongory::{ffi, SCRATCH_CELLS};
 
-/// A search with a fresh scratch: the number and the answer.
-fn search(text: &[u8], n: u64, pattern: &[u8], m: u64, numbers: [u32; 3], list: &mut [u32]) -> (u32, [u64; 4]) {
-    let ([method, mark, budget], mut answer) = (numbers, [9; 4]);
-    let mut scratch = vec![u64::MAX; SCRATCH_CELLS];
-    let said = ffi::search(text, n, pattern, m, method, mark, budget, list, &mut scratch, &mut answer);
+/// A search with a fresh scratch, for a pattern with its second run: the number and the answer.
+fn search_with(
+    text: &[u8],
+    n: u64,
+    [pattern, fixed]: [&[u8]; 2],
+    m: u64,
+    [method, mark, budget]: [u32; 3],
+    list: &mut [u32],
+) -> (u32, [u64; 4]) {
+    let (mut scratch, mut answer) = (vec![u64::MAX; SCRATCH_CELLS], [9; 4]);
+    let said = ffi::search(text, n, pattern, fixed, m, method, mark, budget, list, &mut scratch, &mut answer);
     (said, answer)
 }
+
+/// The same with every bit fixed.
+fn search(text: &[u8], n: u64, pattern: &[u8], m: u64, numbers: [u32; 3], list: &mut [u32]) -> (u32, [u64; 4]) {
+    search_with(text, n, [pattern, &ALL_FIXED], m, numbers, list)
+}
+
+const ALL_FIXED: [u8; 256] = [0xff; 256];
 
 const ALL: u32 = u32::MAX;
 const UNCHANGED: [u64; 4] = [9; 4];
@@ -55,7 +68,7 @@ fn counts_of_64_bits() {
     for bit in 12..64 {
         let more = 1u64 << bit;
         assert_eq!(search(&bytes, 16, &bytes, more | 8, [0, 0, ALL], &mut []), (3, UNCHANGED));
-        assert_eq!(ffi::hash_value(&bytes, more | 8, 0, &mut [9]), 3);
+        assert_eq!(ffi::hash_value(&bytes, &bytes, more | 8, 0, &mut [9]), 3);
         assert_eq!(ffi::scratch_cells(0, more | 8, &mut [9]), 3);
     }
     for bit in 0..64 {
@@ -81,6 +94,10 @@ fn lengths() {
             assert_eq!(search(&bytes[..len], bits, &[], 0, [0, 0, 0], &mut []).0, want);
             let want = if bits == 0 { 3 } else { 4 * u32::from(short) };
             assert_eq!(search(&[], 0, &bytes[..len], bits, [0, 0, 0], &mut []).0, want);
+            let want = if bits == 0 { 3 } else { 17 * u32::from(short) };
+            assert_eq!(search_with(&[], 0, [&bytes, &bytes[..len]], bits, [0, 0, 0], &mut []).0, want);
+            let want = if (1..8).contains(&bits) && !short { 5 } else { want };
+            assert_eq!(ffi::hash_value(&bytes, &bytes[..len], bits, 0, &mut [9]), want);
         }
     }
     for cells in 0..=70 {
@@ -106,28 +123,33 @@ fn lengths() {
         assert_eq!(ffi::list_size(&[], &mut cells), want);
         assert_eq!(ffi::list_write(&[], &mut [0], &mut cells), want);
         assert_eq!(ffi::list_read(&[0], &mut [], &mut cells), want);
-        assert_eq!(ffi::hash_value(&[0], 8, 0, &mut cells), want);
+        assert_eq!(ffi::hash_value(&[0], &[0], 8, 0, &mut cells), want);
         assert_eq!(ffi::scratch_cells(0, 8, &mut cells), want);
         assert_eq!(ffi::eight_bits(&[0], 8, 0, &mut cells), want);
         let want = if answer < 3 { 101 } else { 0 };
         assert_eq!(ffi::mark_sitting(&[], &[], &[], &mut [], &mut cells), want);
         let want = if answer < 4 { 101 } else { 0 };
-        assert_eq!(ffi::search(&[], 0, &[0], 1, 0, 0, 0, &mut [], &mut [0; 16], &mut cells), want);
+        assert_eq!(ffi::search(&[], 0, &[0], &[0], 1, 0, 0, 0, &mut [], &mut [0; 16], &mut cells), want);
     }
 }
 
 /// Empty slices everywhere.
 #[test]
 fn nothing_lent() {
-    assert_eq!(ffi::search(&[], 0, &[], 0, 0, 0, 0, &mut [], &mut [], &mut []), 101);
-    assert_eq!(ffi::search(&[], 0, &[], 0, 5, 0, 0, &mut [], &mut [], &mut []), 100);
-    assert_eq!(ffi::search(&[], 0, &[], 0, 0, 0, 0, &mut [], &mut [], &mut [0; 4]), 3);
-    assert_eq!(ffi::search(&[], 0, &[0], 1, 0, 0, 0, &mut [], &mut [], &mut [0; 4]), 7);
+    assert_eq!(ffi::search(&[], 0, &[], &[], 0, 0, 0, 0, &mut [], &mut [], &mut []), 101);
+    assert_eq!(ffi::search(&[], 0, &[], &[], 0, 5, 0, 0, &mut [], &mut [], &mut []), 100);
+    assert_eq!(ffi::search(&[], 0, &[], &[], 0, 0, 0, 0, &mut [], &mut [], &mut [0; 4]), 3);
+    assert_eq!(ffi::search(&[], 0, &[], &[], 1, 0, 0, 0, &mut [], &mut [], &mut [0; 4]), 4);
+    assert_eq!(ffi::search(&[], 0, &[0], &[], 1, 0, 0, 0, &mut [], &mut [], &mut [0; 4]), 17);
+    assert_eq!(ffi::search(&[], 0, &[0], &[0], 1, 0, 0, 0, &mut [], &mut [], &mut [0; 4]), 7);
     assert_eq!(ffi::scratch_cells(0, 0, &mut []), 101);
     assert_eq!(ffi::scratch_cells(5, 0, &mut []), 100);
     assert_eq!(ffi::scratch_cells(0, 0, &mut [0]), 3);
-    assert_eq!(ffi::hash_value(&[], 0, 0, &mut []), 101);
-    assert_eq!(ffi::hash_value(&[], 0, 0, &mut [0]), 3);
+    assert_eq!(ffi::hash_value(&[], &[], 0, 0, &mut []), 101);
+    assert_eq!(ffi::hash_value(&[], &[], 0, 0, &mut [0]), 3);
+    assert_eq!(ffi::hash_value(&[], &[], 1, 0, &mut [0]), 4);
+    assert_eq!(ffi::hash_value(&[0], &[], 1, 0, &mut [0]), 17);
+    assert_eq!(ffi::hash_value(&[0], &[0], 1, 0, &mut [0]), 5);
     assert_eq!(ffi::eight_bits(&[], 0, 0, &mut []), 101);
     assert_eq!(ffi::eight_bits(&[], 0, 0, &mut [0]), 6);
     assert_eq!(ffi::list_size(&[], &mut []), 101);
@@ -147,12 +169,16 @@ fn odd_addresses() {
     let bytes: Vec<u8> = (0..64).map(|i: u8| i.wrapping_mul(37)).collect();
     let copy = |from: usize| bytes[from..from + 24].to_vec();
     for (from, method) in (0..8).flat_map(|from| (0..METHODS).map(move |method| (from, method))) {
-        let mut list = [0; 8];
         let (text, pattern) = (&bytes[from..from + 24], &bytes[from + 5..from + 8]);
-        let at_odd = (search(text, 190, pattern, 20, [method, 0, ALL], &mut list), list);
-        let (text, pattern) = (copy(from), copy(from)[5..8].to_vec());
-        assert_eq!(at_odd, (search(&text, 190, &pattern, 20, [method, 0, ALL], &mut list), list));
-        assert_eq!((at_odd.0 .1[1], list[0]), (1, 40));
+        for fixed in [&[0xff; 11], &[0xff, 0xdf, 0xff, 0xff, 0xdf, 0xff, 0xff, 0xdf, 0xff, 0xff, 0xdf]] {
+            let fixed = &fixed[from..from + 3];
+            let mut list = [0; 8];
+            let at_odd = (search_with(text, 190, [pattern, fixed], 20, [method, 0, ALL], &mut list), list);
+            let (text, pattern, fixed) = (copy(from), copy(from)[5..8].to_vec(), fixed.to_vec());
+            let again = search_with(&text, 190, [&pattern, &fixed], 20, [method, 0, ALL], &mut list);
+            assert_eq!(at_odd, (again, list));
+            assert_eq!((at_odd.0 .1[1], list[0]), (1, 40));
+        }
     }
 }
 
@@ -163,7 +189,9 @@ fn lengths_of_64_bits() {
     assert_eq!(search(&long, 9, &[0x80], 1, [0, 0, ALL], &mut []), (0, [9, 0, 9, 0]));
     assert_eq!(search(&[0], 8, &long, 9, [0, 0, ALL], &mut []), (0, [0, 0, 0, 0]));
     assert_eq!(ffi::eight_bits(&long, 9, 1, &mut [0]), 0);
-    assert_eq!(ffi::hash_value(&long, 9, 1, &mut [0]), 0);
+    assert_eq!(search_with(&[0], 8, [&[0, 0], &long], 9, [0, 0, ALL], &mut []), (0, [0, 0, 0, 0]));
+    assert_eq!(ffi::hash_value(&long, &[0, 0], 9, 1, &mut [0]), 0);
+    assert_eq!(ffi::hash_value(&[0, 0], &long, 9, 1, &mut [0]), 0);
     let mut answer = [0];
     assert_eq!((ffi::list_write(&[300], &mut long, &mut answer), answer), (0, [3]));
     assert_eq!(long[..4], [1, 0xac, 2, 0]);

@@ -30,6 +30,12 @@ impl<T: Draw> Lent<T> {
         &mut self.all[MARGIN..MARGIN + len]
     }
 
+    /// The first `k` cells of the buffer.
+    pub fn front(&self, k: usize) -> &[T] {
+        assert!(k <= self.len);
+        &self.all[MARGIN..MARGIN + k]
+    }
+
     /// No cell was changed.
     pub fn unchanged(&self) -> bool {
         self.all == self.before

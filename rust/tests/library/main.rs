@@ -13,5 +13,6 @@ mod random;
 mod refusals;
 mod rules;
 mod searches;
+mod second_runs;
 mod sets;
 mod values;

@@ -1,7 +1,7 @@
 //! Sittings against marking by sets: drawn ones, all small ones, and the edges.
 use crate::buffers::Lent;
 use crate::random::Random;
-use crate::rules::{bits, Pair};
+use crate::rules::{self, bits, Pair};
 use crate::sets;
 use mitongory::marking::{mark_sitting, Marks, Sitting, Totals, SHEETS};
 use mitongory::{ffi, Method, Occurrences, Pattern, Refusal, Text};
@@ -200,9 +200,9 @@ fn keys_of_searches() {
     for _ in 0..2_000 {
         let bytes: Vec<u8> = (0..20).map(|_| random.draw() as u8).collect();
         let (n, m) = (random.below(161), 1 + random.below(5));
-        let pair = Pair { t: bits(&bytes, n), w: bits(&bytes[10..], m) };
+        let pair = Pair { t: bits(&bytes, n), w: rules::pattern(&bytes[10..], &bytes[5..], m) };
         let text = Text::new(&bytes, n as u64).unwrap();
-        let pattern = Pattern::new(&bytes[10..], m as u64).unwrap();
+        let pattern = Pattern::with_fixed(&bytes[10..], &bytes[5..], m as u64).unwrap();
         let key: Vec<u32> = Occurrences::new(text, pattern, Method::Wide).unwrap().collect();
         let sheet: Vec<u32> = (0..200).filter(|_| random.once_in(3)).collect();
         let right = sheet.iter().filter(|&&place| pair.occurs(place as usize)).count();

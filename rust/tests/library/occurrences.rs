@@ -1,20 +1,22 @@
 //! The iterator over all occurrences.
 use crate::random::Random;
-use crate::rules::{takes, Pair};
-use mitongory::{Bits, Mark, Method, Occurrences, Pattern, Progress, Refusal, Text};
+use crate::rules::{masked, takes, Pair};
+use crate::second_runs;
+use mitongory::{Bits, Mark, Method, Occurrences, Pattern, Progress, Refusal, Text, WildBits};
 
-/// A drawn text, and a pattern out of it or after its end.
+/// A drawn text, and a pattern out of it or after its end, with any second run.
 fn drawn(random: &Random, most: usize) -> Pair {
     let ones = random.one_of(&[0, 1, 2, 10]);
     let t: Vec<bool> = (0..random.below(most)).map(|_| random.below(20) < ones).collect();
     let m = random.one_of(&[1, 2, 3, 8, 15, 20, 64, 65, 100]);
     let from = random.below(t.len() + 1);
-    let w = (0..m).map(|j| t.get(from + j).copied().unwrap_or(false)).collect();
-    Pair { t, w }
+    let w: Vec<bool> = (0..m).map(|j| t.get(from + j).copied().unwrap_or(false)).collect();
+    let fixed = second_runs::drawn(random, m);
+    Pair { t, w: masked(&w, &fixed) }
 }
 
 /// The bits of both.
-fn packed(pair: &Pair) -> (Bits, Bits) {
+fn packed(pair: &Pair) -> (Bits, WildBits) {
     (pair.t.iter().copied().collect(), pair.w.iter().copied().collect())
 }
 
@@ -110,6 +112,38 @@ fn within_budgets() {
     }
     println!("within_budgets: {worked} spent budgets, resumed {resumed} times");
     assert!(worked > 2_000 && resumed > 2_000);
+}
+
+/// Words of 16 bits that differ in a field of eight are found by one pattern, with every method, and so are all other
+/// places at which it occurs.
+#[test]
+fn words_with_a_wild_field() {
+    let random = Random::of("words_with_a_wild_field");
+    let word: WildBits = "011010????????01".parse().unwrap();
+    let (mut t, mut begin) = (Vec::new(), Vec::new());
+    while begin.len() < 3_000 {
+        t.extend((0..random.below(20)).map(|_| random.once_in(2)));
+        begin.push(t.len() as u32);
+        t.extend(word.to_string().chars().map(|c| if c == '?' { random.once_in(2) } else { c == '1' }));
+    }
+    let text: Bits = t.iter().copied().collect();
+    let w = word.to_string().chars().map(|c| (c != '?').then_some(c == '1')).collect();
+    let want = Pair { t, w }.occurrences();
+    assert!(begin.iter().all(|place| want.binary_search(place).is_ok()) && want.len() > begin.len());
+    for &method in Method::ALL {
+        let occurrences = Occurrences::new(text.text().unwrap(), word.pattern().unwrap(), method).unwrap();
+        assert!(occurrences.eq(want.iter().copied()), "{method}");
+    }
+}
+
+/// A pattern of wild bits alone is found at every place.
+#[test]
+fn every_place() {
+    let (text, bytes) = (Text::from_bytes(&[0x5a; 400]).unwrap(), [0xa5; 8]);
+    for &method in Method::ALL {
+        let pattern = Pattern::with_fixed(&bytes, &[0; 8], 64).unwrap();
+        assert!(Occurrences::new(text, pattern, method).unwrap().eq(0..=3_200 - 64), "{method}");
+    }
 }
 
 /// Marks up to the number of places are accepted, those above it refused.

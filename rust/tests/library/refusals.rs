@@ -33,6 +33,20 @@ fn patterns() {
     assert!(Pattern::new(&[0; 256], 2_048).is_ok());
     assert!(Pattern::new(&[0], 1).is_ok());
     assert!(Pattern::new(&[0; 9], 1).is_ok());
+    let number = |bytes: usize, fixed: usize, m| {
+        let zeros = [0; 300];
+        Pattern::with_fixed(&zeros[..bytes], &zeros[..fixed], m).map_err(Refusal::number).map(|_| ())
+    };
+    assert_eq!(number(2, 1, 9), Err(17));
+    assert_eq!(number(1, 0, 1), Err(17));
+    assert_eq!(number(256, 255, 2_048), Err(17));
+    // The second run is judged after the length and the first one.
+    assert_eq!((number(0, 0, 0), number(0, 0, 1), number(300, 0, 2_049)), (Err(3), Err(4), Err(3)));
+    assert_eq!((number(1, 1, 9), number(255, 255, 2_048), number(1, 2, 9)), (Err(4), Err(4), Err(4)));
+    assert_eq!(
+        (number(2, 2, 9), number(256, 256, 2_048), number(2, 9, 9), number(9, 1, 8)),
+        (Ok(()), Ok(()), Ok(()), Ok(()))
+    );
 }
 
 #[test]
@@ -60,12 +74,12 @@ fn search_calls() {
         assert_eq!(number(longest, longest, method, 0), Ok(Stop::Full(0)));
         assert_eq!(number(longest, longest, method, 2), Err(6));
     }
-    // A scratch of any length needs the raw call. Ten bits: plain 48, hash 256, wide 146, tail 2.
+    // A scratch of any length needs the raw call. Ten bits: plain 48, hash 512, wide 146, tail 2.
     let raw = |method, scratch: usize| {
         let mut cells = vec![0; scratch];
-        ffi::search(&[0; 5], 36, &[0; 2], 10, method, 0, 1, &mut [], &mut cells, &mut [0; 4])
+        ffi::search(&[0; 5], 36, &[0; 2], &[0xff; 2], 10, method, 0, 1, &mut [], &mut cells, &mut [0; 4])
     };
-    for (method, figure) in [(0, 48), (1, 256), (3, 146), (4, 2)] {
+    for (method, figure) in [(0, 48), (1, 512), (3, 146), (4, 2)] {
         let said = (raw(method, figure - 1), raw(method, 0), raw(method, figure), raw(method, 5_000));
         assert_eq!(said, (7, 7, 0, 0));
     }
@@ -75,11 +89,13 @@ fn search_calls() {
     let mut with = |method| search(text, pattern, method, Mark::START, 1, &mut [], &mut scratch).map(|a| a.stop);
     assert_eq!((with(Method::Plain), with(Method::Tail)), (Ok(Stop::Full(0)), Ok(Stop::Full(0))));
     assert_eq!(with(Method::Wide).unwrap_err(), Refusal::ScratchTooShort);
-    // A pattern of 65 bits by tail: after its bytes, before the mark and the scratch.
-    let raw = |m, bytes: usize, mark| {
-        ffi::search(&[0; 9], 72, &[0; 9][..bytes], m, 4, mark, 1, &mut [], &mut [0; 1], &mut [0; 4])
+    // A pattern of 65 bits by tail: after its bytes and those of its second run, before the mark and the scratch.
+    let raw = |m, bytes: usize, fixed: usize, mark| {
+        let (bytes, fixed) = (&[0; 9][..bytes], &[0; 9][..fixed]);
+        ffi::search(&[0; 9], 72, bytes, fixed, m, 4, mark, 1, &mut [], &mut [0; 1], &mut [0; 4])
     };
-    assert_eq!((raw(65, 8, 99), raw(65, 9, 99), raw(65, 9, 0), raw(64, 9, 99), raw(64, 8, 0)), (4, 5, 5, 6, 7));
+    assert_eq!((raw(65, 8, 8, 99), raw(65, 8, 9, 99), raw(65, 9, 8, 99), raw(64, 9, 7, 99)), (4, 4, 17, 17));
+    assert_eq!((raw(65, 9, 9, 99), raw(65, 9, 9, 0), raw(64, 9, 8, 99), raw(64, 8, 9, 0)), (5, 5, 6, 7));
 }
 
 #[test]
@@ -90,6 +106,10 @@ fn eight_bits_and_hash_values() {
     assert_eq!(text.eight_bits(u32::MAX).unwrap_err().number(), 6);
     assert_eq!(Pattern::new(&[0xff], 7).unwrap().hash_value(0).unwrap_err().number(), 5);
     assert_eq!(Pattern::new(&[0xff], 8).unwrap().hash_value(0), Ok(8));
+    assert_eq!(Pattern::with_fixed(&[0xff], &[0x00], 7).unwrap().hash_value(0).unwrap_err().number(), 5);
+    assert_eq!(Pattern::with_fixed(&[0xff], &[0x00], 8).unwrap().hash_value(0), Ok(0));
+    // Without the second run's bytes a length below 8 is not judged.
+    assert_eq!((ffi::hash_value(&[0], &[], 7, 0, &mut [0]), ffi::hash_value(&[], &[], 7, 0, &mut [0])), (17, 4));
 }
 
 #[test]
@@ -143,7 +163,7 @@ fn numbers_and_messages() {
         assert_eq!(Refusal::from_number(refusal.number()), Some(refusal));
         assert!(refusal.to_string().starts_with(&format!("refusal {}: ", i + 1)));
     }
-    for number in [0, 17, 100, 101, u32::MAX] {
+    for number in [0, 18, 100, 101, u32::MAX] {
         assert_eq!(Refusal::from_number(number), None);
     }
     let error: Box<dyn std::error::Error> = Refusal::FileEndsEarly.into();

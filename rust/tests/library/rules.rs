@@ -6,6 +6,24 @@ pub fn bits(bytes: &[u8], count: usize) -> Vec<bool> {
     (0..count).map(|p| bytes[p / 8] & (1 << (7 - p % 8)) != 0).collect()
 }
 
+/// A pattern's bits, none where its second run has a 0: there it is wild.
+pub fn masked(bits: &[bool], fixed: &[bool]) -> Vec<Option<bool>> {
+    bits.iter().zip(fixed).map(|(&bit, &fixed)| fixed.then_some(bit)).collect()
+}
+
+/// The bits of a packed pattern.
+pub fn pattern(bytes: &[u8], fixed: &[u8], count: usize) -> Vec<Option<bool>> {
+    masked(&bits(bytes, count), &bits(fixed, count))
+}
+
+/// A bit of a pattern agrees with a bit: a wild one with both values, a fixed one with its own.
+fn agrees(bit: Option<bool>, with: bool) -> bool {
+    match bit {
+        None => true,
+        Some(own) => own == with,
+    }
+}
+
 /// E, the number of places.
 pub fn places(n: usize, m: usize) -> usize {
     if m <= n {
@@ -15,10 +33,10 @@ pub fn places(n: usize, m: usize) -> usize {
     }
 }
 
-/// A text and a pattern.
+/// A text and a pattern; a bit of the pattern that is none is wild.
 pub struct Pair {
     pub t: Vec<bool>,
-    pub w: Vec<bool>,
+    pub w: Vec<Option<bool>>,
 }
 
 pub const PLAIN: u32 = 0;
@@ -48,7 +66,7 @@ pub fn takes(method: u32, m: usize) -> bool {
 pub fn scratch_cells(method: u32, m: usize) -> usize {
     match method {
         PLAIN => 16 * (m + 7).div_ceil(8),
-        HASH => 256,
+        HASH => 512,
         SKIP => 256 + m,
         WIDE => 2 * (63 + m),
         _ => 2,
@@ -56,12 +74,12 @@ pub fn scratch_cells(method: u32, m: usize) -> usize {
 }
 
 /// The least d from `from` on at which the pattern agrees with eight bits that end its window.
-pub fn least_move(w: &[bool], eight: &[bool], from: usize) -> usize {
+pub fn least_move(w: &[Option<bool>], eight: &[bool], from: usize) -> usize {
     let m = w.len() as isize;
     let meets = |d: usize| {
         (0..8).all(|j: isize| {
             let i = m - 8 - d as isize + j;
-            i < 0 || w[i as usize] == eight[j as usize]
+            i < 0 || agrees(w[i as usize], eight[j as usize])
         })
     };
     (from..=w.len()).find(|&d| meets(d)).expect("d = m meets it: no index is left")
@@ -90,7 +108,7 @@ impl Pair {
 
     /// The pattern occurs at place s.
     pub fn occurs(&self, s: usize) -> bool {
-        s < self.places() && (0..self.w.len()).all(|j| self.t[s + j] == self.w[j])
+        s < self.places() && (0..self.w.len()).all(|j| agrees(self.w[j], self.t[s + j]))
     }
 
     pub fn occurrences(&self) -> Vec<u32> {
@@ -111,20 +129,20 @@ impl Pair {
             }
             SKIP => {
                 let b = (s + m) / 8 - 1;
-                let shows = |a: &usize| (0..8).all(|j| w[8 * b - a + j] == t[8 * b + j]);
+                let shows = |a: &usize| (0..8).all(|j| agrees(w[8 * b - a + j], t[8 * b + j]));
                 ((s..=8 * b).filter(|&a| a < end).filter(shows).collect(), 8 * b + 1)
             }
             TAIL => {
-                let ends = |r: &usize| (0..*r).all(|j| w[j] == t[s + m - r + j]);
+                let ends = |r: &usize| (0..*r).all(|j| agrees(w[j], t[s + m - r + j]));
                 let r = (0..m).rev().find(ends).expect("r = 0 always is one");
                 (vec![s], s + m - r)
             }
             _ => {
-                let stands = |i: &usize| (0..m).all(|k| s + i + k >= n || t[s + i + k] == w[k]);
+                let stands = |i: &usize| (0..m).all(|k| s + i + k >= n || agrees(w[k], t[s + i + k]));
                 let window = 63 + m;
                 let next = match t.get(s + window) {
                     None => end,
-                    Some(c) => match (0..m).rev().find(|&k| w[k] == *c) {
+                    Some(&c) => match (0..m).rev().find(|&k| agrees(w[k], c)) {
                         Some(k) => s + window - k,
                         None => s + window + 1,
                     },

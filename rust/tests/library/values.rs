@@ -2,7 +2,9 @@
 use crate::buffers::Lent;
 use crate::random::Random;
 use crate::rules::{self, bits, least_move, takes};
-use mitongory::ffi;
+use crate::second_runs;
+use mitongory::{ffi, Bits};
+use std::collections::BTreeMap;
 
 /// A call's number and answer are as they should be: the value, or a refusal that leaves the answer.
 fn check(said: u32, answer: &Lent<u64>, want: Result<u64, u32>) -> bool {
@@ -45,7 +47,7 @@ fn eight_bits() {
 #[test]
 fn hash_value() {
     let random = Random::of("hash_value");
-    let (mut calls, mut answer) = (0, Lent::new(&random, 4));
+    let (mut calls, mut seen, mut answer) = (0, BTreeMap::new(), Lent::new(&random, 4));
     let long: Vec<u8> = (0..257).map(|_| random.draw() as u8).collect();
     // All bytes alike, with all bits alike or not: patterns that agree with themselves after many moves.
     let alike: Vec<Vec<u8>> = [0, 255, 0b0101_0101, 0b0001_0001].map(|b| vec![b; 257]).into();
@@ -57,23 +59,33 @@ fn hash_value() {
         let near = (8 * len + random.below(10) as u64).max(6) - 6;
         let m = random.one_of(&[near, 0, 1, 7, 8, 9, 16, 21, 2_048, 2_049, 1 << random.below(64), u64::MAX]);
         let cells = random.one_of(&[0, 1, 1, 1, 2, 4]);
-        let refused = [(101, cells == 0), (3, m == 0 || m > 2_048), (4, len < m.div_ceil(8)), (5, m < 8)];
-        let refused = refused.into_iter().find(|&(_, holds)| holds);
-        let w = refused.map_or_else(|| bits(bytes, m as usize), |_| Vec::new());
+        let run: Bits = second_runs::drawn(&random, m.clamp(1, 2_048) as usize).into_iter().collect();
+        let fixed = &run.bytes()[..run.bytes().len() - usize::from(random.once_in(8))];
+        let refused = [
+            (101, cells == 0),
+            (3, m == 0 || m > 2_048),
+            (4, len < m.div_ceil(8)),
+            (17, (fixed.len() as u64) < m.div_ceil(8)),
+            (5, m < 8),
+        ];
+        let refused = refused.into_iter().find(|&(_, holds)| holds).map(|(number, _)| number);
+        *seen.entry(refused).or_insert(0) += 1;
+        let w = refused.map_or_else(|| rules::pattern(bytes, fixed, m as usize), |_| Vec::new());
         for value in 0..=255 {
             let want = match refused {
-                Some((number, _)) => Err(number),
+                Some(number) => Err(number),
                 None => Ok(least_move(&w, &bits(&[value], 8), 0) as u64),
             };
-            let said = ffi::hash_value(bytes, m, value, answer.lend(cells));
+            let said = ffi::hash_value(bytes, fixed, m, value, answer.lend(cells));
             assert!(
                 check(said, &answer, want),
-                "{bytes:x?}, m {m}, value {value}, {cells} cells: {said}, not {want:?}"
+                "{bytes:x?}, {fixed:x?}, m {m}, value {value}, {cells} cells: {said}, not {want:?}"
             );
             calls += 1;
         }
     }
-    println!("hash_value: {calls} calls");
+    println!("hash_value: {calls} calls, patterns by number {seen:?}");
+    assert!(seen.keys().copied().eq([None, Some(3), Some(4), Some(5), Some(17), Some(101)]));
 }
 
 #[test]

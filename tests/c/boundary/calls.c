@@ -15,11 +15,12 @@ static const struct {
     {sizeof(uint32_t), sizeof(uint8_t)},  /* LIST_WRITE */
     {sizeof(uint8_t), sizeof(uint32_t)}}; /* LIST_READ */
 
-static uint32_t result_of(const struct call *c, const void *input, void *output, uint64_t *answer)
+static uint32_t result_of(const struct call *c, const void *input, const void *fixed, void *output, uint64_t *answer)
 {
     switch (c->function) {
     case HASH_VALUE:
-        return mitongory_hash_value(input, c->input_len, c->bits, (uint8_t)c->number, answer, c->answer_len);
+        return mitongory_hash_value(input, c->input_len, fixed, c->fixed_len, c->bits, (uint8_t)c->number, answer,
+                                    c->answer_len);
     case EIGHT_BITS:
         return mitongory_eight_bits(input, c->input_len, c->bits, c->number, answer, c->answer_len);
     case LIST_SIZE:
@@ -40,14 +41,16 @@ void calling(const char *name, struct call c, uint32_t result, uint64_t told, co
     about(name);
     for (side = AT_START; side < SIDES; side++) {
         struct lent input = lend(c.input_len * read, c.input, (enum side)side, ONLY_READ);
+        struct lent fixed = lend(c.fixed_len, c.fixed, (enum side)side, ONLY_READ);
         struct lent output = lend(c.output_len * written, NULL, (enum side)side, WRITTEN);
         struct lent answer = lend(c.answer_len * sizeof told, NULL, (enum side)side, WRITTEN);
-        check(result_of(&c, at(&input), at(&output), at(&answer)) == result, "result");
+        check(result_of(&c, at(&input), at(&fixed), at(&output), at(&answer)) == result, "result");
         check(holds(&answer, &told, accepted ? sizeof told : 0), "answer");
-        check(stays(&input), "the buffer that is read");
+        check(stays(&input) && stays(&fixed), "the buffers that are read");
         if (written > 0)
             check(holds(&output, front, accepted ? told * written : 0), "the buffer that is written");
         give_back(&input);
+        give_back(&fixed);
         give_back(&output);
         give_back(&answer);
     }

@@ -9,11 +9,13 @@ enum function { HASH_VALUE, EIGHT_BITS, LIST_SIZE, LIST_WRITE, LIST_READ };
 
 struct call {
     enum function function;
-    const void *input;  /* the buffer that is only read */
-    size_t input_len;   /* in elements, as the other lengths */
-    uint64_t bits;      /* HASH_VALUE: m; EIGHT_BITS: n */
-    uint32_t number;    /* HASH_VALUE: the value; EIGHT_BITS: the place */
-    size_t output_len;  /* of the buffer that LIST_WRITE and LIST_READ write */
+    const void *input; /* the buffer that is only read */
+    size_t input_len;  /* in elements, as the other lengths */
+    const void *fixed; /* HASH_VALUE: one more that is only read */
+    size_t fixed_len;
+    uint64_t bits;     /* HASH_VALUE: m; EIGHT_BITS: n */
+    uint32_t number;   /* HASH_VALUE: the value; EIGHT_BITS: the place */
+    size_t output_len; /* of the buffer that LIST_WRITE and LIST_READ write */
     size_t answer_len;
 };
 

@@ -25,6 +25,7 @@ static const uint32_t results[] = {
     MITONGORY_CELLS_MISSING,
     MITONGORY_TOO_MANY_SHEETS,
     MITONGORY_COUNTS_DIFFER,
+    MITONGORY_FIXED_BYTES_MISSING,
     MITONGORY_UNKNOWN_METHOD,
     MITONGORY_ANSWER_CELLS_MISSING};
 
@@ -34,9 +35,9 @@ static void version(void)
 {
     char text[40];
     about("version");
-    check(MITONGORY_VERSION_NUMBER == 500, "number of the header");
+    check(MITONGORY_VERSION_NUMBER == 600, "number of the header");
     check(mitongory_version() == MITONGORY_VERSION_NUMBER, "number of the library");
-    check(mitongory_version_0_5() == mitongory_version(), "the two functions");
+    check(mitongory_version_0_6() == mitongory_version(), "the two functions");
     snprintf(text, sizeof text, "%d.%d.%d", MITONGORY_VERSION_MAJOR, MITONGORY_VERSION_MINOR, MITONGORY_VERSION_PATCH);
     check(strcmp(text, MITONGORY_VERSION) == 0, "text");
 }
@@ -46,6 +47,7 @@ static void cells_of_a_search(void)
     about("a search");
     check(MITONGORY_SCRATCH_CELLS == 4222, "scratch");
     check(MITONGORY_ANSWER_CELLS == 4, "answer");
+    check(MITONGORY_FIXED_BYTES_MISSING == 17, "refusal of the second run");
 }
 
 static void numbers_of_a_sitting(void)

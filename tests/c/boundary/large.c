@@ -32,8 +32,8 @@ static int answer_is(uint64_t occurrences, uint64_t mark)
 static uint32_t search_largest(const uint8_t *text, uint32_t method, uint32_t mark)
 {
     static const uint8_t one[] = {0x80};
-    return mitongory_search(text, LARGEST_N / 8, LARGEST_N, one, 1, 1, method, mark, UINT32_MAX, list, 2, scratch,
-                            MITONGORY_SCRATCH_CELLS, answer, MITONGORY_ANSWER_CELLS);
+    return mitongory_search(text, LARGEST_N / 8, LARGEST_N, one, 1, all_fixed, 1, 1, method, mark, UINT32_MAX, list, 2,
+                            scratch, MITONGORY_SCRATCH_CELLS, answer, MITONGORY_ANSWER_CELLS);
 }
 
 /* 2^30 bits, all 0 but the last: its place is the largest there is. */
@@ -79,16 +79,16 @@ static void clear(size_t bytes)
 
 /* Paper 1 by hash, with these buffers. */
 struct buffers {
-    const uint8_t *text, *pattern;
+    const uint8_t *text, *pattern, *fixed;
     uint32_t *list;
     uint64_t *scratch, *answer;
-    size_t text_len, pattern_len, list_len, scratch_len, answer_len;
+    size_t text_len, pattern_len, fixed_len, list_len, scratch_len, answer_len;
 };
 
 static struct buffers small_buffers(void)
 {
-    struct buffers b = {paper1_text,          paper1_pattern, list, scratch, answer, PAPER1_TEXT_BYTES,
-                        PAPER1_PATTERN_BYTES, 2,              MITONGORY_SCRATCH_CELLS, MITONGORY_ANSWER_CELLS};
+    struct buffers b = {paper1_text, paper1_pattern, all_fixed, list, scratch, answer, PAPER1_TEXT_BYTES,
+                        PAPER1_PATTERN_BYTES, PAPER1_PATTERN_BYTES, 2, MITONGORY_SCRATCH_CELLS, MITONGORY_ANSWER_CELLS};
     memset(answer, 0, sizeof answer);
     memset(list, 0, sizeof list);
     return b;
@@ -96,8 +96,9 @@ static struct buffers small_buffers(void)
 
 static uint32_t search_with(struct buffers b)
 {
-    return mitongory_search(b.text, b.text_len, PAPER1_N, b.pattern, b.pattern_len, PAPER1_M, MITONGORY_HASH, 0, UINT32_MAX,
-                            b.list, b.list_len, b.scratch, b.scratch_len, b.answer, b.answer_len);
+    return mitongory_search(b.text, b.text_len, PAPER1_N, b.pattern, b.pattern_len, b.fixed, b.fixed_len, PAPER1_M,
+                            MITONGORY_HASH, 0, UINT32_MAX, b.list, b.list_len, b.scratch, b.scratch_len, b.answer,
+                            b.answer_len);
 }
 
 static int finds(const struct buffers *b)
@@ -125,6 +126,14 @@ static void long_searches(void)
     check(finds(&b), "the place of that pattern");
     clear(sizeof paper1_pattern);
 
+    memset(huge, 0xff, sizeof paper1_pattern);
+    b = small_buffers();
+    b.fixed = huge;
+    b.fixed_len = length;
+    check(search_with(b) == MITONGORY_OK, "fixed");
+    check(finds(&b), "the place by that second run");
+    clear(sizeof paper1_pattern);
+
     b = small_buffers();
     b.list = huge;
     b.list_len = length;
@@ -136,7 +145,7 @@ static void long_searches(void)
     b.scratch = huge;
     b.scratch_len = length;
     check(search_with(b) == MITONGORY_OK, "scratch");
-    check(finds(&b) && b.scratch[256] == 0, "the place with that scratch");
+    check(finds(&b) && b.scratch[512] == 0, "the place with that scratch");
     clear(sizeof scratch);
 
     b = small_buffers();
@@ -156,8 +165,15 @@ static void long_values(void)
           "text of eight bits");
     clear(sizeof paper1_text);
     memcpy(huge, paper1_pattern, sizeof paper1_pattern);
-    check(mitongory_hash_value(huge, length, PAPER1_M, 0x34, answer, 1) == MITONGORY_OK && answer[0] == 0, "pattern of H");
+    check(mitongory_hash_value(huge, length, all_fixed, PAPER1_PATTERN_BYTES, PAPER1_M, 0x34, answer, 1) == MITONGORY_OK &&
+              answer[0] == 0,
+          "pattern of H");
     clear(sizeof paper1_pattern);
+    answer[0] = 1;
+    check(mitongory_hash_value(paper1_pattern, PAPER1_PATTERN_BYTES, huge, length, PAPER1_M, 0xff, answer, 1) ==
+                  MITONGORY_OK &&
+              answer[0] == 0,
+          "second run of H, all of it wild");
 }
 
 static void long_lists(void)

@@ -10,7 +10,7 @@ enum { MORE = 9 }; /* elements more than needed */
 static void list_size(const char *name, const uint32_t *list, size_t list_len, size_t answer_len, uint32_t result,
                       uint64_t told)
 {
-    struct call c = {LIST_SIZE, list, list_len, 0, 0, 0, answer_len};
+    struct call c = {LIST_SIZE, list, list_len, NULL, 0, 0, 0, 0, answer_len};
     calling(name, c, result, told, NULL);
 }
 
@@ -18,7 +18,7 @@ static void list_size(const char *name, const uint32_t *list, size_t list_len, s
 static void list_write(const char *name, const uint32_t *list, size_t list_len, size_t target_len, size_t answer_len,
                        uint32_t result, const uint8_t *file, size_t file_len)
 {
-    struct call c = {LIST_WRITE, list, list_len, 0, 0, target_len, answer_len};
+    struct call c = {LIST_WRITE, list, list_len, NULL, 0, 0, 0, target_len, answer_len};
     calling(name, c, result, file_len, file);
 }
 
@@ -26,7 +26,7 @@ static void list_write(const char *name, const uint32_t *list, size_t list_len, 
 static void list_read(const char *name, const uint8_t *file, size_t file_len, size_t cells_len, size_t answer_len,
                       uint32_t result, const uint32_t *list, size_t list_len)
 {
-    struct call c = {LIST_READ, file, file_len, 0, 0, cells_len, answer_len};
+    struct call c = {LIST_READ, file, file_len, NULL, 0, 0, 0, cells_len, answer_len};
     calling(name, c, result, list_len, list);
 }
 

@@ -12,6 +12,7 @@ int main(void)
 {
     pack_papers();
     searches();
+    wild();
     drawn();
     scratches();
     values();

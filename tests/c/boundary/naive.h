@@ -1,19 +1,36 @@
-/* A search bit by bit, and all that is expected by it of a call for all places. */
+/*
+ * The rules of documents 01 and 02, read bit by bit: where a pattern with wild bits occurs, H(B), and all that a call of a
+ * search leaves.
+ */
 #ifndef NAIVE_H
 #define NAIVE_H
 
+#include <mitongory.h>
+
 #include "search_call.h"
 
-/* The places of the pattern, and how many they are; as many as the text has bits is room enough. */
-size_t every_place(const uint8_t *text, uint64_t n, const uint8_t *pattern, uint64_t m, uint32_t *places);
+/* The most places that a naive search writes: the text has fewer bits, or hardly more than the pattern. */
+enum { MOST_PLACES = 512 };
 
 /* Whether the method takes no pattern of m bits. */
 int unfit(uint32_t method, uint64_t m);
 
+/* The least d in from..m at which the pattern agrees with the value; H(B) from 0 on. Only the pattern plays a part. */
+uint64_t least_move(const struct search *q, unsigned value, uint64_t from);
+
+/* What a call answers that is not refused: the answer cells, and the places that it writes. */
+struct naive {
+    uint64_t told[MITONGORY_ANSWER_CELLS];
+    uint32_t places[MOST_PLACES];
+};
+
+/* By the machine of document 01; the method takes the pattern. */
+void search_naively(const struct search *q, struct naive *r);
+
 /*
- * Makes the call, which is from the mark 0 on, has the largest budget and as many cells as there are places or more. Expects
- * these places, or refusal 5 or 7, whichever comes first, and that all stays but the cells that may be written.
+ * Makes the call, whose bytes and mark are good. Expects this answer, or refusal 5 or 7, whichever comes first, and that
+ * all stays but the cells that may be written.
  */
-void search_for_all(const struct search *q, enum side side, const uint32_t *places, size_t count);
+void search_like(const struct search *q, enum side side, const struct naive *r);
 
 #endif

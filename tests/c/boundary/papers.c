@@ -1,8 +1,11 @@
 #include "papers.h"
 
+#include <string.h>
+
 uint8_t paper1_text[PAPER1_TEXT_BYTES], paper1_pattern[PAPER1_PATTERN_BYTES];
 uint8_t paper2_text[PAPER2_TEXT_BYTES], paper2_pattern[PAPER2_PATTERN_BYTES];
 const uint32_t paper2_occurrences[PAPER2_OCCURRENCES] = {0, 6, 12};
+uint8_t all_fixed[LARGEST_M / 8 + 1];
 
 unsigned bit(const uint8_t *bytes, uint64_t p)
 {
@@ -27,4 +30,5 @@ void pack_papers(void)
     pack("0100110100", paper1_pattern);
     pack("110010110010110010110010110010110", paper2_text);
     pack("110010110010110010110", paper2_pattern);
+    memset(all_fixed, 0xff, sizeof all_fixed);
 }

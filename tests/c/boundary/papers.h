@@ -5,6 +5,8 @@
 #include <stddef.h>
 #include <stdint.h>
 
+#include "bounds.h"
+
 /* The bits of text and pattern, the bytes that they take, and the number of places. */
 enum {
     PAPER1_N = 36,
@@ -25,7 +27,10 @@ extern uint8_t paper1_text[PAPER1_TEXT_BYTES], paper1_pattern[PAPER1_PATTERN_BYT
 extern uint8_t paper2_text[PAPER2_TEXT_BYTES], paper2_pattern[PAPER2_PATTERN_BYTES];
 extern const uint32_t paper2_occurrences[PAPER2_OCCURRENCES];
 
-/* Fills the four arrays. */
+/* The second run of a pattern without wild bits, and a byte more than the longest one takes. */
+extern uint8_t all_fixed[LARGEST_M / 8 + 1];
+
+/* Fills the arrays. */
 void pack_papers(void);
 
 unsigned bit(const uint8_t *bytes, uint64_t p);

@@ -3,6 +3,7 @@
 #define PARTS_H
 
 void searches(void);
+void wild(void);
 void drawn(void);
 void scratches(void);
 void values(void);

@@ -10,7 +10,7 @@ static uint64_t scratch[MITONGORY_SCRATCH_CELLS], answer[MITONGORY_ANSWER_CELLS]
 
 /* A search in which only the answer may be a buffer that is not empty. */
 #define SEARCH(m, method, answer, answer_len)                                                                              \
-    mitongory_search(nowhere, 0, 0, nowhere, 0, m, method, 0, 0, nowhere, 0, nowhere, 0, answer, answer_len)
+    mitongory_search(nowhere, 0, 0, nowhere, 0, nowhere, 0, m, method, 0, 0, nowhere, 0, nowhere, 0, answer, answer_len)
 
 /* A sitting of no sheets or of an empty one, in which only the answer may be a buffer that is not empty. */
 #define SITTING(sheets, answer, answer_len)                                                                                \
@@ -27,8 +27,14 @@ static void empty_buffers(const char *name, void *nowhere)
     check(SEARCH(1, MITONGORY_PLAIN, answer, 4) == MITONGORY_PATTERN_BYTES_MISSING, "search for one bit");
     check(mitongory_scratch_cells(MITONGORY_PLAIN, 0, nowhere, 0) == MITONGORY_ANSWER_CELLS_MISSING, "scratch cells");
     check(mitongory_scratch_cells(MITONGORY_TAIL + 1, 0, nowhere, 0) == MITONGORY_UNKNOWN_METHOD, "those of method 5");
-    check(mitongory_hash_value(nowhere, 0, m, 0, nowhere, 0) == MITONGORY_ANSWER_CELLS_MISSING, "hash value");
-    check(mitongory_hash_value(nowhere, 0, m, 0, answer, 1) == MITONGORY_PATTERN_BYTES_MISSING, "hash value of no bytes");
+    check(mitongory_search(nowhere, 0, 0, paper1_pattern, PAPER1_PATTERN_BYTES, nowhere, 0, PAPER1_M, MITONGORY_PLAIN, 0, 1,
+                           nowhere, 0, nowhere, 0, answer, 4) == MITONGORY_FIXED_BYTES_MISSING,
+          "search with an empty second run");
+    check(mitongory_hash_value(nowhere, 0, nowhere, 0, m, 0, nowhere, 0) == MITONGORY_ANSWER_CELLS_MISSING, "hash value");
+    check(mitongory_hash_value(nowhere, 0, nowhere, 0, m, 0, answer, 1) == MITONGORY_PATTERN_BYTES_MISSING,
+          "hash value of no bytes");
+    check(mitongory_hash_value(paper1_pattern, 1, nowhere, 0, m, 0, answer, 1) == MITONGORY_FIXED_BYTES_MISSING,
+          "hash value with an empty second run");
     check(mitongory_eight_bits(nowhere, 0, 0, 0, nowhere, 0) == MITONGORY_ANSWER_CELLS_MISSING, "eight bits");
     check(mitongory_eight_bits(nowhere, 0, 0, 0, answer, 1) == MITONGORY_BEYOND_END, "eight bits of none");
     check(mitongory_list_size(nowhere, 0, nowhere, 0) == MITONGORY_ANSWER_CELLS_MISSING, "list size");
@@ -44,17 +50,29 @@ static void empty_buffers(const char *name, void *nowhere)
               answer[MITONGORY_FALSE_POSITIVES] == 0,
           "no sheets");
     check(SITTING(1, answer, 3) == MITONGORY_TARGET_TOO_SHORT, "an empty sheet, no report");
-    check(mitongory_search(nowhere, 0, 0, paper1_pattern, PAPER1_PATTERN_BYTES, PAPER1_M, MITONGORY_PLAIN, 0, 1, nowhere, 0,
-                           scratch, MITONGORY_SCRATCH_CELLS, answer, 4) == MITONGORY_OK,
+    check(mitongory_search(nowhere, 0, 0, paper1_pattern, PAPER1_PATTERN_BYTES, all_fixed, PAPER1_PATTERN_BYTES, PAPER1_M,
+                           MITONGORY_PLAIN, 0, 1, nowhere, 0, scratch, MITONGORY_SCRATCH_CELLS, answer, 4) == MITONGORY_OK,
           "an empty text and an empty list");
     check(answer[MITONGORY_STEPS] == 0 && answer[MITONGORY_OCCURRENCES] == 0 && answer[MITONGORY_MARK] == 0 &&
               answer[MITONGORY_STOP] == MITONGORY_DONE,
           "the answer to them");
 }
 
+/* The one occurrence of the second paper's pattern in itself. */
+static void one_place(const uint8_t *both, const uint8_t *fixed)
+{
+    uint32_t list[4] = {1, 1, 1, 1};
+    check(mitongory_search(both, PAPER2_PATTERN_BYTES, PAPER2_M, both, PAPER2_PATTERN_BYTES, fixed, PAPER2_PATTERN_BYTES,
+                           PAPER2_M, MITONGORY_WIDE, 0, 9, list, 4, scratch, MITONGORY_SCRATCH_CELLS, answer,
+                           4) == MITONGORY_OK,
+          "result");
+    check(answer[MITONGORY_OCCURRENCES] == 1 && list[0] == 0 && answer[MITONGORY_MARK] == 1 &&
+              answer[MITONGORY_STOP] == MITONGORY_DONE,
+          "answer");
+}
+
 static void same_buffer(void)
 {
-    const uint8_t *both = paper2_pattern;
     const uint32_t *key = paper2_occurrences;
     const uint64_t count = PAPER2_OCCURRENCES;
     uint32_t list[4] = {1, 1, 1, 1};
@@ -66,12 +84,9 @@ static void same_buffer(void)
               list[MITONGORY_SHEET_CELLS] == 1,
           "report");
     about("one buffer as text and pattern");
-    check(mitongory_search(both, PAPER2_PATTERN_BYTES, PAPER2_M, both, PAPER2_PATTERN_BYTES, PAPER2_M, MITONGORY_WIDE, 0, 9,
-                           list, 4, scratch, MITONGORY_SCRATCH_CELLS, answer, 4) == MITONGORY_OK,
-          "result");
-    check(answer[MITONGORY_OCCURRENCES] == 1 && list[0] == 0 && answer[MITONGORY_MARK] == 1 &&
-              answer[MITONGORY_STOP] == MITONGORY_DONE,
-          "answer");
+    one_place(paper2_pattern, all_fixed);
+    about("one buffer as text, pattern and second run");
+    one_place(paper2_pattern, paper2_pattern);
 }
 
 void pointers(void)

@@ -10,6 +10,7 @@
 #include "naive.h"
 #include "papers.h"
 #include "parts.h"
+#include "second_run.h"
 
 enum { MORE_BITS = 80, MOST_BYTES = (LARGEST_M + MORE_BITS) / 8 };
 
@@ -59,8 +60,8 @@ static void known_cells(void)
     cells_told(MITONGORY_PLAIN, 9, 1, MITONGORY_OK, 32);
     cells_told(MITONGORY_PLAIN, 10, 1, MITONGORY_OK, 48);
     cells_told(MITONGORY_PLAIN, LARGEST_M, 1, MITONGORY_OK, 4112);
-    cells_told(MITONGORY_HASH, LEAST_M_HASH, 1, MITONGORY_OK, 256);
-    cells_told(MITONGORY_HASH, LARGEST_M, 2, MITONGORY_OK, 256);
+    cells_told(MITONGORY_HASH, LEAST_M_HASH, 1, MITONGORY_OK, 512);
+    cells_told(MITONGORY_HASH, LARGEST_M, 2, MITONGORY_OK, 512);
     cells_told(MITONGORY_SKIP, LEAST_M_SKIP, 1, MITONGORY_OK, 271);
     cells_told(MITONGORY_SKIP, LARGEST_M, 1, MITONGORY_OK, 2304);
     cells_told(MITONGORY_WIDE, 1, 1, MITONGORY_OK, 128);
@@ -70,31 +71,32 @@ static void known_cells(void)
 }
 
 /* One method and m: what is told, and a search with so many cells and with one less, on both sides. */
-static void one_method(struct search q, const uint32_t *places)
+static void one_method(struct search q)
 {
     const size_t figure = scratch_for(q.method, q.m);
+    struct naive r = {{0}, {0}};
     uint64_t told = 0;
     int side;
     if (unfit(q.method, q.m)) {
         check(mitongory_scratch_cells(q.method, q.m, &told, 1) == MITONGORY_PATTERN_UNFIT && told == 0, "no cells");
         q.scratch_len = figure;
-        search_for_all(&q, AT_END, places, q.list_len);
+        search_like(&q, AT_END, &r);
         return;
     }
     check(mitongory_scratch_cells(q.method, q.m, &told, 1) == MITONGORY_OK && told == figure, "cells");
+    search_naively(&q, &r);
     for (side = AT_START; side < SIDES; side++) {
         q.scratch_len = figure;
-        search_for_all(&q, (enum side)side, places, q.list_len);
+        search_like(&q, (enum side)side, &r);
         q.scratch_len = figure - 1;
-        search_for_all(&q, (enum side)side, places, q.list_len);
+        search_like(&q, (enum side)side, &r);
     }
 }
 
-/* A text of fewer than MORE_BITS bits more than the pattern, which occurs in it. */
+/* A text of fewer than MORE_BITS bits more than the pattern, which occurs in it; its wild bits differ by m. */
 static void one_length(uint64_t m)
 {
-    uint8_t text[MOST_BYTES], pattern[MOST_BYTES] = {0};
-    uint32_t places[8 * MOST_BYTES];
+    uint8_t text[MOST_BYTES], pattern[MOST_BYTES] = {0}, fixed[MOST_BYTES];
     struct search q = paper1(MITONGORY_PLAIN);
     uint64_t i, from;
     for (i = 0; i < sizeof text; i++)
@@ -104,9 +106,11 @@ static void one_length(uint64_t m)
     from = draw(q.n - m + 1);
     for (i = 0; i < m; i++)
         set_bit(pattern, i, bit(text, from + i));
-    q.list_len = every_place(text, q.n, pattern, m, places);
+    draw_fixed((enum wild)(m % WAYS), m, fixed);
+    q.fixed = fixed, q.fixed_len = q.pattern_len;
+    q.list_len = MORE_BITS;
     for (q.method = MITONGORY_PLAIN; q.method <= MITONGORY_TAIL; q.method++)
-        one_method(q, places);
+        one_method(q);
 }
 
 /* The macro is the largest figure that is told for any method and m. */

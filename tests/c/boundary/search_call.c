@@ -9,17 +9,18 @@ size_t scratch_for(uint32_t method, uint64_t m)
 {
     switch (method) {
     case MITONGORY_PLAIN: return 16 * ((m + 7) / 8 + ((m + 7) % 8 != 0));
-    case MITONGORY_HASH: return 256;
+    case MITONGORY_HASH: return 512;
     case MITONGORY_SKIP: return 256 + m;
     case MITONGORY_WIDE: return 2 * (63 + m);
     default: return 2;
     }
 }
 
-/* All but the text and the pattern's bytes. */
+/* All but the text and the pattern's values. */
 static struct search search_by(uint32_t method, uint64_t m)
 {
-    struct search q = {NULL, 0, 0, NULL, 0, m, method, 0, UINT32_MAX, 3, scratch_for(method, m), MITONGORY_ANSWER_CELLS};
+    struct search q = {NULL, 0, 0, NULL, 0, all_fixed, (size_t)(m + 7) / 8, m, method, 0, UINT32_MAX, 3,
+                       scratch_for(method, m), MITONGORY_ANSWER_CELLS};
     return q;
 }
 
@@ -43,18 +44,20 @@ uint32_t search_on(const struct search *q, enum side side, struct search_buffers
 {
     b->text = lend(q->text_len, q->text, side, ONLY_READ);
     b->pattern = lend(q->pattern_len, q->pattern, side, ONLY_READ);
+    b->fixed = lend(q->fixed_len, q->fixed, side, ONLY_READ);
     b->list = lend(q->list_len * sizeof(uint32_t), NULL, side, WRITTEN);
     b->scratch = lend(q->scratch_len * sizeof(uint64_t), NULL, side, WRITTEN);
     b->answer = lend(q->answer_len * sizeof(uint64_t), NULL, side, WRITTEN);
-    return mitongory_search(at(&b->text), q->text_len, q->n, at(&b->pattern), q->pattern_len, q->m, q->method, q->mark,
-                            q->budget, at(&b->list), q->list_len, at(&b->scratch), q->scratch_len, at(&b->answer),
-                            q->answer_len);
+    return mitongory_search(at(&b->text), q->text_len, q->n, at(&b->pattern), q->pattern_len, at(&b->fixed), q->fixed_len,
+                            q->m, q->method, q->mark, q->budget, at(&b->list), q->list_len, at(&b->scratch),
+                            q->scratch_len, at(&b->answer), q->answer_len);
 }
 
 void give_back_all(struct search_buffers *b)
 {
     give_back(&b->text);
     give_back(&b->pattern);
+    give_back(&b->fixed);
     give_back(&b->list);
     give_back(&b->scratch);
     give_back(&b->answer);
@@ -72,7 +75,7 @@ static void expect(const char *name, const struct search *q, uint32_t result, co
     about(name);
     for (side = AT_START; side < SIDES; side++) {
         check(search_on(q, (enum side)side, &b) == result, "result");
-        check(stays(&b.text) && stays(&b.pattern), "text and pattern");
+        check(stays(&b.text) && stays(&b.pattern) && stays(&b.fixed), "text, pattern and fixed");
         check(holds(&b.answer, told, told_bytes), "answer");
         check(holds(&b.list, places, places_bytes), "list");
         check(stays_after(&b.scratch, scratch_bytes), "scratch");

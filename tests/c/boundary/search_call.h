@@ -11,6 +11,8 @@ struct search {
     uint64_t n;
     const void *pattern;
     size_t pattern_len;
+    const void *fixed;
+    size_t fixed_len;
     uint64_t m;
     uint32_t method, mark, budget;
     size_t list_len, scratch_len, answer_len;
@@ -19,12 +21,15 @@ struct search {
 /* The cells of scratch that a method takes for a pattern of m bits, by the words of document 02. */
 size_t scratch_for(uint32_t method, uint64_t m);
 
-/* Paper 1 or 2 from the mark 0 on, with the largest budget, three list cells, and the least scratch and answer. */
+/*
+ * Paper 1 or 2 from the mark 0 on, without wild bits, with the largest budget, three list cells, and the least scratch and
+ * answer.
+ */
 struct search paper1(uint32_t method);
 struct search paper2(uint32_t method);
 
 struct search_buffers {
-    struct lent text, pattern, list, scratch, answer;
+    struct lent text, pattern, fixed, list, scratch, answer;
 };
 
 /* Lends the buffers, makes the call and returns its result. */

@@ -16,16 +16,20 @@ static void first_paper(uint32_t method, uint32_t steps)
 {
     static const uint32_t places[] = {PAPER1_OCCURRENCE};
     struct search q = paper1(method);
-    uint8_t text[MORE_BYTES], pattern[MORE_BYTES];
+    uint8_t text[MORE_BYTES], pattern[MORE_BYTES], fixed[MORE_BYTES];
     accepted("paper 1", q, steps, 1, PAPER1_PLACES, MITONGORY_DONE, places);
     memset(text, paper1_pattern[0], sizeof text);
     memcpy(text, paper1_text, sizeof paper1_text);
     memset(pattern, 0xff, sizeof pattern);
     memcpy(pattern, paper1_pattern, sizeof paper1_pattern);
+    memset(fixed, 0, sizeof fixed);
+    memcpy(fixed, all_fixed, sizeof paper1_pattern);
     q.text = text;
     q.text_len = sizeof text;
     q.pattern = pattern;
     q.pattern_len = sizeof pattern;
+    q.fixed = fixed;
+    q.fixed_len = sizeof fixed;
     accepted("more bytes than needed", q, steps, 1, PAPER1_PLACES, MITONGORY_DONE, places);
 }
 
@@ -78,7 +82,7 @@ static struct search one_byte_each(uint32_t method, const char *text, uint64_t n
 {
     struct search q = paper1(method);
     q.text = text, q.text_len = 1, q.n = n;
-    q.pattern = pattern, q.pattern_len = 1, q.m = m;
+    q.pattern = pattern, q.pattern_len = q.fixed_len = 1, q.m = m;
     return q;
 }
 
@@ -135,6 +139,26 @@ static void refused_scratch(const char *name, struct search q, size_t scratch_le
     refused(name, q, MITONGORY_SCRATCH_TOO_SHORT);
 }
 
+/* 17 where the second run has too few bytes, after 4 and before 6 and 7; just the bytes are enough. */
+static void short_second_run(struct search q)
+{
+    for (q.fixed_len = 0; q.fixed_len < PAPER2_PATTERN_BYTES; q.fixed_len++) {
+        struct search wrong = q;
+        refused("too few bytes of the second run", wrong, MITONGORY_FIXED_BYTES_MISSING);
+        wrong.scratch_len = 0;
+        refused("and no scratch", wrong, MITONGORY_FIXED_BYTES_MISSING);
+        wrong.mark = UINT32_MAX;
+        refused("and the largest mark", wrong, MITONGORY_FIXED_BYTES_MISSING);
+        wrong.pattern_len = q.fixed_len;
+        refused("and as few pattern bytes", wrong, MITONGORY_PATTERN_BYTES_MISSING);
+        wrong.fixed_len = PAPER2_PATTERN_BYTES;
+        refused("only the pattern bytes", wrong, MITONGORY_PATTERN_BYTES_MISSING);
+    }
+    q.fixed_len = PAPER2_PATTERN_BYTES;
+    q.mark = PAPER2_PLACES;
+    accepted("just the bytes of the second run", q, 0, 0, PAPER2_PLACES, MITONGORY_DONE, NULL);
+}
+
 /* Every refusal but those of the method, with the least and the largest number that it is given for. */
 static void refused_by_every_method(uint32_t method)
 {
@@ -161,10 +185,14 @@ static void refused_by_every_method(uint32_t method)
     q.pattern_len = LARGEST_M / 8 - 1;
     refused_m("m = 2048 with 255 bytes", q, LARGEST_M, MITONGORY_PATTERN_BYTES_MISSING);
     q.pattern_len = LARGEST_M / 8;
+    q.fixed_len = LARGEST_M / 8 - 1;
+    refused_m("m = 2048 with 255 bytes of the second run", q, LARGEST_M, MITONGORY_FIXED_BYTES_MISSING);
+    q.fixed_len = LARGEST_M / 8;
     q.m = method == MITONGORY_TAIL ? MOST_M_TAIL : LARGEST_M;
     q.scratch_len = scratch_for(method, q.m);
     accepted("the largest m that the method takes", q, 0, 0, 0, MITONGORY_DONE, NULL);
 
+    short_second_run(good);
     refused_mark("a mark after the end", good, PAPER2_PLACES + 1);
     refused_mark("the largest mark", good, UINT32_MAX);
     refused_scratch("one scratch cell too few", good, scratch_for(method, good.m) - 1);
@@ -174,11 +202,22 @@ static void refused_by_every_method(uint32_t method)
         refused("too few answer cells", q, MITONGORY_ANSWER_CELLS_MISSING);
 }
 
+/* 17 comes before 5. */
+static void short_and_unfit(const char *name, struct search q, uint64_t m)
+{
+    q.fixed_len = (size_t)(m + 7) / 8 - 1;
+    refused_m(name, q, m, MITONGORY_FIXED_BYTES_MISSING);
+    q.fixed_len++;
+    refused_m(name, q, m, MITONGORY_PATTERN_UNFIT);
+}
+
 static void refused_for_a_method(void)
 {
     refused_m("hash, m = 7", paper1(MITONGORY_HASH), LEAST_M_HASH - 1, MITONGORY_PATTERN_UNFIT);
     refused_m("skip, m = 14", paper2(MITONGORY_SKIP), LEAST_M_SKIP - 1, MITONGORY_PATTERN_UNFIT);
     refused("paper 1 by skip", paper1(MITONGORY_SKIP), MITONGORY_PATTERN_UNFIT);
+    short_and_unfit("hash, m = 7, and a short second run", paper1(MITONGORY_HASH), LEAST_M_HASH - 1);
+    short_and_unfit("skip, m = 14, and a short second run", paper2(MITONGORY_SKIP), LEAST_M_SKIP - 1);
     refused_mark("the mark 28 of document 01", paper1(MITONGORY_PLAIN), PAPER1_PLACES + 1);
     refused("a good call by method 5", paper2(no_method), MITONGORY_UNKNOWN_METHOD);
 }
@@ -191,7 +230,7 @@ static void longest_by_tail(void)
     struct search q = paper1(MITONGORY_TAIL);
     q.text = q.pattern = zeros;
     q.n = MOST_M_TAIL + 2;
-    q.text_len = q.pattern_len = MOST_M_TAIL / 8 + 1;
+    q.text_len = q.pattern_len = q.fixed_len = MOST_M_TAIL / 8 + 1;
     q.m = MOST_M_TAIL;
     accepted("tail, m = 64", q, 3, 3, 3, MITONGORY_DONE, places);
     q.n = 3;
@@ -199,15 +238,17 @@ static void longest_by_tail(void)
     accepted("tail, m = 1", q, 3, 3, 3, MITONGORY_DONE, places);
     q.n = MOST_M_TAIL + 2;
     refused_m("tail, m = 65", q, MOST_M_TAIL + 1, MITONGORY_PATTERN_UNFIT);
-    q.pattern_len = LARGEST_M / 8;
+    q.pattern_len = q.fixed_len = LARGEST_M / 8;
     refused_m("tail, m = 2048", q, LARGEST_M, MITONGORY_PATTERN_UNFIT);
 
     q.m = MOST_M_TAIL + 1;
-    q.pattern_len = MOST_M_TAIL / 8;
+    q.pattern_len = q.fixed_len = MOST_M_TAIL / 8;
     q.mark = UINT32_MAX;
     q.scratch_len = 0;
     refused("tail, m = 65: first the pattern bytes", q, MITONGORY_PATTERN_BYTES_MISSING);
     q.pattern_len++;
+    refused("tail, m = 65: then the second run's bytes", q, MITONGORY_FIXED_BYTES_MISSING);
+    q.fixed_len++;
     refused("tail, m = 65: then the pattern's length", q, MITONGORY_PATTERN_UNFIT);
     q.mark = 0;
     refused("tail, m = 65: before the scratch", q, MITONGORY_PATTERN_UNFIT);
@@ -228,7 +269,7 @@ static void order_of_refusals(void)
     struct search q = paper1(no_method);
     q.n = UINT64_MAX;
     q.m = 0;
-    q.pattern_len = 0;
+    q.pattern_len = q.fixed_len = 0;
     q.mark = UINT32_MAX;
     q.scratch_len = 0;
     q.answer_len = MITONGORY_ANSWER_CELLS - 1;
@@ -248,12 +289,18 @@ static void order_of_refusals(void)
     q.m = PAPER1_M;
     refused("then the pattern bytes", q, MITONGORY_PATTERN_BYTES_MISSING);
     q.pattern_len = PAPER1_PATTERN_BYTES;
+    refused("then the second run's bytes", q, MITONGORY_FIXED_BYTES_MISSING);
+    q.fixed_len = PAPER1_PATTERN_BYTES - 1;
+    refused("then the second run's last byte", q, MITONGORY_FIXED_BYTES_MISSING);
+    q.fixed_len = PAPER1_PATTERN_BYTES;
     refused("then the pattern's length for the method", q, MITONGORY_PATTERN_UNFIT);
     q.method = MITONGORY_HASH;
     refused("then the mark", q, MITONGORY_BEYOND_END);
     q.mark = PAPER1_PLACES;
     refused("then the scratch", q, MITONGORY_SCRATCH_TOO_SHORT);
-    q.scratch_len = 256;
+    q.scratch_len = 511;
+    refused("then its last cell", q, MITONGORY_SCRATCH_TOO_SHORT);
+    q.scratch_len = 512;
     accepted("and then it is accepted", q, 0, 0, PAPER1_PLACES, MITONGORY_DONE, NULL);
 }
 
