@@ -1,5 +1,6 @@
 // Times the library's searches against those of an earlier archive, on the same data in the same run. bench/run links that
-// archive with its search call under another name; where there is none, there is nothing to time.
+// archive with its search call under another name; where there is none, there is nothing to time. The earlier call has no
+// second run, so that all bits of the pattern are fixed in both.
 #include "bench.h"
 #include "draw.h"
 #include "library.h"
@@ -26,13 +27,19 @@ struct pair {
     uint64_t answers[PAIR][MITONGORY_ANSWER_CELLS], sums[PAIR];
 };
 
+static uint32_t search(struct pair *p, int who, uint32_t mark) {
+    size_t bytes = (p->m + 7) / 8;
+    if (who == NOW)
+        return mitongory_search(p->t, p->n / 8, p->n, p->w, bytes, every_bit, bytes, p->m, p->method, mark, p->budget, p->list,
+                                p->cells, scratch, scratch_cells(p->method, p->m), p->answers[who], MITONGORY_ANSWER_CELLS);
+    return before_search(p->t, p->n / 8, p->n, p->w, bytes, p->m, p->method, mark, p->budget, p->list, p->cells, scratch,
+                         sizeof scratch / sizeof *scratch, p->answers[who], MITONGORY_ANSWER_CELLS);
+}
+
 static void run(void *of, int who) {
     struct pair *p = of;
-    size_t most = sizeof scratch / sizeof *scratch, lent = who == NOW ? scratch_cells(p->method, p->m) : most;
     for (uint32_t mark = 0; mark < p->calls; mark++)
-        if ((who == NOW ? mitongory_search : before_search)(p->t, p->n / 8, p->n, p->w, (p->m + 7) / 8, p->m, p->method, mark,
-                                                            p->budget, p->list, p->cells, scratch, lent, p->answers[who],
-                                                            MITONGORY_ANSWER_CELLS)) {
+        if (search(p, who, mark)) {
             printf("%s, m %zu: refused\n", method_names[p->method], p->m);
             exit(1);
         }
@@ -44,7 +51,7 @@ static void look(void *of, int who) {
     for (size_t i = 0; i < p->answers[who][MITONGORY_OCCURRENCES]; i++) p->sums[who] = p->sums[who] * 31 + p->list[i];
 }
 
-enum { ROWS = 64 };
+enum { ROWS = 128 };
 static double ratios[METHODS][ROWS];
 static int noted[METHODS];
 
@@ -62,9 +69,21 @@ static void measure(const char *what, struct pair *p, double units) {
     ratios[p->method][noted[p->method]++] = best[NOW] / best[BEFORE];
 }
 
+// A search of the whole text by each method that takes the pattern and, where they are asked for, calls of one step.
+static void searches(const char *what, struct pair p, int one_step) {
+    for (p.method = 0; p.method < METHODS; p.method++) {
+        if (!takes(p.method, p.m)) continue;
+        p.calls = 1, p.budget = UINT32_MAX;
+        measure(what, &p, p.n);
+        p.calls = CALLS, p.budget = 1;
+        if (one_step) measure("one step", &p, CALLS);
+    }
+}
+
 void time_before(void) {
     static const unsigned zeros[] = {50, 70, 90};
     static const size_t lengths[] = {8, 15, 20, 32, 64, 128, 500, 2048};
+    enum { LENGTHS = sizeof lengths / sizeof *lengths };
     size_t n = (size_t)1 << 22;
     uint8_t *t = malloc(n / 8), w[256];
     uint32_t *list = calloc(n, sizeof *list);
@@ -72,24 +91,24 @@ void time_before(void) {
         fprintf(stderr, "bench before: no earlier archive is linked\n");
         exit(2);
     }
-    head(" zeros | m | method | scratch now | before | now | now / before ");
+    head(" text | m | method | scratch now | before | now | now / before ");
     for (size_t z = 0; z < sizeof zeros / sizeof *zeros; z++) {
+        char what[32];
+        snprintf(what, sizeof what, "%u %% zeros", zeros[z]);
         draw_text(t, n, zeros[z]);
-        for (size_t k = 0; k < sizeof lengths / sizeof *lengths; k++) {
-            char what[32];
-            progress("before and now: %u %% zeros, m = %zu", zeros[z], lengths[k]);
+        for (size_t k = 0; k < LENGTHS; k++) {
+            progress("before and now: %s, m = %zu", what, lengths[k]);
             draw_word(w, lengths[k], t, n);
-            for (int method = 0; method < METHODS; method++) {
-                struct pair p = {.t = t, .w = w, .n = n, .m = lengths[k], .cells = n, .method = method, .list = list};
-                if (!takes(method, lengths[k])) continue;
-                p.calls = 1, p.budget = UINT32_MAX;
-                snprintf(what, sizeof what, "%u %%", zeros[z]);
-                measure(what, &p, n);
-                p.calls = CALLS, p.budget = 1;
-                if (z == 0) measure("one step", &p, CALLS);
-            }
+            searches(what, (struct pair){.t = t, .w = w, .n = n, .m = lengths[k], .cells = n, .list = list}, z == 0);
         }
     }
+    n = 1 << 19;
+    for (int kind = 0; kind < HARD_KINDS; kind++)
+        for (size_t k = 0; k < LENGTHS; k++) {
+            progress("before and now: %s, m = %zu", hard_names[kind], lengths[k]);
+            draw_hard(kind, t, n, w, lengths[k]);
+            searches(hard_names[kind], (struct pair){.t = t, .w = w, .n = n, .m = lengths[k], .cells = n, .list = list}, 0);
+        }
     head(" method | rows | now / before, median | least | largest ");
     for (int g = 0; g < METHODS; g++) {
         int k = noted[g];

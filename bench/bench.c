@@ -1,8 +1,10 @@
 // Measures the library against the same rules in C and against naive Rust, on the same data in the same run.
 //   bench check [ROUNDS]    small drawn inputs, every answer held to a bit-by-bit reading of the rules
 //   bench texts [BITS_LOG2] searches in texts with 50, 70 and 90 % zeros, nanoseconds for each bit
+//   bench wild [BITS_LOG2]  the same with a field of eight wild bits in each pattern
 //   bench hard              searches on texts and patterns on which little is ruled out early
 //   bench short             calls with a budget of one step, nanoseconds for a call
+//   bench tables            calls on a text of one place, with wild bits of every kind against none
 //   bench files             the position list file, nanoseconds for a position
 //   bench sitting           the marking of a sitting, nanoseconds for a position
 //   bench before            searches by the library against an earlier archive of it, where one was linked
@@ -22,6 +24,10 @@ int main(int count, char **args) {
                "lent no more.\n");
         known = 1, time_texts(number ? (int)number : 27);
     }
+    if (all || !strcmp(mode, "wild")) {
+        printf("\n## Searches with wild bits\n\nThe same with a field of eight wild bits at a drawn place of each pattern.\n");
+        known = 1, time_wild(number ? (int)number : 27);
+    }
     if (all || !strcmp(mode, "hard")) {
         printf("\n## Hard texts\n\nNanoseconds for each bit of texts of 2^19 bits on which little is ruled out early.\n"
                "Patterns of 8, 20 and 32 bits are there for tail alone.\n");
@@ -30,6 +36,14 @@ int main(int count, char **args) {
     if (all || !strcmp(mode, "short")) {
         printf("\n## Calls with a budget of one step\n\nNanoseconds for a call, which are those of making its tables.\n");
         known = 1, time_short();
+    }
+    if (all || !strcmp(mode, "tables")) {
+        printf("\n## Tables with wild bits\n\n"
+               "Nanoseconds for a call on a text of m bits, which has one place. Drawn patterns, zeros and patterns of period 6\n"
+               "have one wild bit, some, many, all of them wild, fields of eight at the beginning, the end and between, and every\n"
+               "ninth bit. Each is held against the same pattern with no wild bit. A row has the largest ratio, and the pattern\n"
+               "and the wild bits that the library has it with; last comes the largest library / C, whatever the wild bits.\n");
+        known = 1, time_tables();
     }
     if (all || !strcmp(mode, "files")) {
         printf("\n## The position list file\n\nNanoseconds for each position.\n");
@@ -43,6 +57,6 @@ int main(int count, char **args) {
         known = 1, time_sitting();
     }
     if (!strcmp(mode, "before")) known = 1, time_before();
-    if (!known) fprintf(stderr, "bench check | texts | hard | short | files | sitting | before | all\n");
+    if (!known) fprintf(stderr, "bench check | texts | wild | hard | short | tables | files | sitting | before | all\n");
     return known ? 0 : 2;
 }

@@ -6,8 +6,10 @@
 int check(long rounds);
 long check_sittings(long rounds);
 void time_texts(int log2);
+void time_wild(int log2);
 void time_hard(void);
 void time_short(void);
+void time_tables(void);
 void time_files(void);
 void time_sitting(void);
 void time_before(void);

@@ -4,8 +4,11 @@
 #include <stddef.h>
 #include <stdint.h>
 
-// All hits to the list, which has a cell for each; returns their number.
-size_t naive_search(const uint8_t *text, size_t n, const uint8_t *pattern, size_t m, uint32_t *list, size_t cells);
+// All hits to the list, which has a cell for each; returns their number. The first takes every bit as fixed.
+size_t naive_search(const uint8_t *text, size_t n, const uint8_t *pattern, const uint8_t *fixed, size_t m, uint32_t *list,
+                    size_t cells);
+size_t naive_search_wild(const uint8_t *text, size_t n, const uint8_t *pattern, const uint8_t *fixed, size_t m, uint32_t *list,
+                         size_t cells);
 
 // The file of a list, or the list of a file: the byte count or the list's count, or SIZE_MAX where there is none.
 size_t naive_write(const uint32_t *list, size_t count, uint8_t *target, size_t len);

@@ -6,10 +6,10 @@ fn bit(bytes: &[u8], p: usize) -> bool {
     bytes[p / 8] >> (7 - p % 8) & 1 == 1
 }
 
-fn search(text: &[u8], n: usize, pattern: &[u8], m: usize, list: &mut [u32]) -> usize {
+fn search(n: usize, m: usize, list: &mut [u32], agrees: impl Fn(usize, usize) -> bool) -> usize {
     let mut hits = 0;
     for s in 0..(n + 1).saturating_sub(m) {
-        if (0..m).all(|j| bit(text, s + j) == bit(pattern, j)) {
+        if (0..m).all(|j| agrees(s, j)) {
             list[hits] = s as u32;
             hits += 1;
         }
@@ -100,18 +100,37 @@ fn mark(key: &[u32], sheets: &[u32], counts: &[u64], report: &mut [u32]) -> Opti
 }
 
 /// # Safety
-/// The pointers have the bytes of n and m bits, and cells for every hit.
+/// The pointers have the bytes of n and m bits, and cells for every hit. The second run is not read.
 #[no_mangle]
 pub unsafe extern "C" fn naive_search(
     t: *const u8,
     n: usize,
     w: *const u8,
+    _fixed: *const u8,
     m: usize,
     list: *mut u32,
     cells: usize,
 ) -> usize {
     let (text, pattern) = (slice::from_raw_parts(t, n.div_ceil(8)), slice::from_raw_parts(w, m.div_ceil(8)));
-    search(text, n, pattern, m, slice::from_raw_parts_mut(list, cells))
+    search(n, m, slice::from_raw_parts_mut(list, cells), |s, j| bit(text, s + j) == bit(pattern, j))
+}
+
+/// # Safety
+/// The pointers have the bytes of n and m bits, and cells for every hit.
+#[no_mangle]
+pub unsafe extern "C" fn naive_search_wild(
+    t: *const u8,
+    n: usize,
+    w: *const u8,
+    fixed: *const u8,
+    m: usize,
+    list: *mut u32,
+    cells: usize,
+) -> usize {
+    let (text, pattern) = (slice::from_raw_parts(t, n.div_ceil(8)), slice::from_raw_parts(w, m.div_ceil(8)));
+    let fixed = slice::from_raw_parts(fixed, m.div_ceil(8));
+    let agrees = |s, j| !bit(fixed, j) || bit(text, s + j) == bit(pattern, j);
+    search(n, m, slice::from_raw_parts_mut(list, cells), agrees)
 }
 
 /// # Safety

@@ -8,34 +8,47 @@ int takes(int method, size_t m) {
     return method == HASH ? m >= 8 : method == SKIP ? m >= 15 : method == TAIL ? m <= 64 : 1;
 }
 
-static int hit(const uint8_t *t, const uint8_t *w, size_t m, size_t s) {
+// Whether a bit agrees with the pattern's bit j: a wild one agrees with both values.
+static int agrees(const struct word *w, size_t j, int b) { return !bit_at(w->fixed, j) || bit_at(w->bits, j) == b; }
+
+// Whether the pattern's first m bits agree with those of the text from s on.
+static int hit(const uint8_t *t, const struct word *w, size_t m, size_t s) {
     for (size_t j = 0; j < m; j++)
-        if (bit_at(t, s + j) != bit_at(w, j)) return 0;
+        if (!agrees(w, j, bit_at(t, s + j))) return 0;
     return 1;
 }
 
-static size_t least(const uint8_t *w, long m, const int *b, long d) {
+// The least move from d on that meets the condition for the eight bits b.
+static size_t least(const struct word *w, const int *b, long d) {
     for (;; d++) {
         int ok = 1;
-        for (long j = 0; j < 8; j++)
-            if (m - 8 - d + j >= 0 && bit_at(w, m - 8 - d + j) != b[j]) ok = 0;
+        for (long j = 0; j < 8; j++) {
+            long k = (long)w->m - 8 - d + j;
+            if (k >= 0 && !agrees(w, k, b[j])) ok = 0;
+        }
         if (ok) return d;
     }
 }
 
+size_t rules_hash_value(const struct word *w, unsigned value) {
+    int b[8];
+    for (int j = 0; j < 8; j++) b[j] = value >> (7 - j) & 1;
+    return least(w, b, 0);
+}
+
 // One step: finds to f, their number to *k; returns the next mark.
-static size_t step(const uint8_t *t, size_t n, const uint8_t *w, size_t m, int method, size_t s, size_t *f, size_t *k) {
-    size_t end = n - m + 1, next = s + 1;
+static size_t step(const uint8_t *t, size_t n, const struct word *w, int method, size_t s, size_t *f, size_t *k) {
+    size_t m = w->m, end = n - m + 1, next = s + 1;
     *k = 0;
     if (method == PLAIN) {
         if (hit(t, w, m, s)) f[(*k)++] = s;
     } else if (method == HASH) {
         int b[8];
         for (int j = 0; j < 8; j++) b[j] = bit_at(t, s + m - 8 + j);
-        size_t h = least(w, m, b, 0);
+        size_t h = least(w, b, 0);
         if (h == 0) {
             if (hit(t, w, m, s)) f[(*k)++] = s;
-            h = least(w, m, b, 1);
+            h = least(w, b, 1);
         }
         next = s + h;
     } else if (method == SKIP) {
@@ -51,11 +64,11 @@ static size_t step(const uint8_t *t, size_t n, const uint8_t *w, size_t m, int m
             next = end;
         else {
             size_t j = m;
-            while (j && bit_at(w, j - 1) != bit_at(t, s + ws)) j--;
+            while (j && !agrees(w, j - 1, bit_at(t, s + ws))) j--;
             next = s + ws + 1 - j;
         }
     } else {
-        // The greatest r below m such that the pattern's first r bits are the window's last r; 0 always is one.
+        // The greatest r below m such that the pattern's first r bits agree with the window's last r; 0 always is one.
         size_t r = m - 1;
         while (!hit(t, w, r, s + m - r)) r--;
         if (hit(t, w, m, s)) f[(*k)++] = s;
@@ -64,12 +77,12 @@ static size_t step(const uint8_t *t, size_t n, const uint8_t *w, size_t m, int m
     return next < end ? next : end;
 }
 
-void rules_search(const uint8_t *t, size_t n, const uint8_t *w, size_t m, int method, size_t mark, size_t budget,
-                  uint32_t *list, size_t cells, struct answer *out) {
-    size_t end = m <= n ? n - m + 1 : 0, steps = 0, hits = 0, k;
+void rules_search(const uint8_t *t, size_t n, const struct word *w, int method, size_t mark, size_t budget, uint32_t *list,
+                  size_t cells, struct answer *out) {
+    size_t end = w->m <= n ? n - w->m + 1 : 0, steps = 0, hits = 0, k;
     static size_t f[8192];
     while (mark < end && steps < budget) {
-        size_t next = step(t, n, w, m, method, mark, f, &k);
+        size_t next = step(t, n, w, method, mark, f, &k);
         for (size_t i = 0; i < k; i++) {
             if (hits == cells) {
                 *out = (struct answer){0, steps, hits, f[i], FULL};

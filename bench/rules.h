@@ -12,7 +12,7 @@ int takes(int method, size_t m);
 static inline size_t scratch_cells(int method, size_t m) {
     switch (method) {
     case PLAIN: return 16 * ((m + 14) / 8);
-    case HASH: return 256;
+    case HASH: return 512;
     case SKIP: return 256 + m;
     case WIDE: return 2 * (63 + m);
     default: return 2;
@@ -20,6 +20,9 @@ static inline size_t scratch_cells(int method, size_t m) {
 }
 
 // What a call answers.
-void rules_search(const uint8_t *t, size_t n, const uint8_t *w, size_t m, int method, size_t mark, size_t budget,
-                  uint32_t *list, size_t cells, struct answer *out);
+void rules_search(const uint8_t *t, size_t n, const struct word *w, int method, size_t mark, size_t budget, uint32_t *list,
+                  size_t cells, struct answer *out);
+
+// H(B) of a pattern of at least 8 bits.
+size_t rules_hash_value(const struct word *w, unsigned value);
 #endif

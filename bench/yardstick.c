@@ -1,5 +1,6 @@
 // The five search rules in plain C, written for speed, with no proof and no care for bytes that a caller did not lend
-// other than those past the end. See yardstick.h.
+// other than those past the end. Where a pattern with wild bits needs other code than one without, a function has `wild`,
+// which is always known when it is compiled, so that a pattern without wild bits does not pay for the others. See yardstick.h.
 #include "yardstick.h"
 #include <string.h>
 
@@ -39,44 +40,69 @@ static inline unsigned bits8(const uint8_t *s, size_t p) {
 
 static inline unsigned bit(const uint8_t *s, size_t p) { return s[p >> 3] >> (7 - (p & 7)) & 1; }
 
-// The head is the first 57 bits, or all of a shorter pattern: what eight bytes show at any place.
+#define INLINE static inline __attribute__((always_inline))
+
+// The first 64 bits of both runs, and the head, which is the first 57 bits, or all of a shorter pattern: what eight bytes show
+// at any place. The mask has a 1 for each of these bits that is fixed.
 struct pattern {
-    const uint8_t *bytes;
+    const uint8_t *bytes, *fixed;
     size_t m, len;
-    uint64_t head;
+    uint64_t first, care, head, mask;
     unsigned cut;
 };
 
-static struct pattern pattern_of(const uint8_t *bytes, size_t m) {
-    struct pattern w = {bytes, m, (m + 7) / 8, 0, m < 57 ? 64 - m : 7};
-    w.head = bytes64(bytes, w.len, 0) >> w.cut;
+INLINE struct pattern pattern_of(const struct word *word, int wild) {
+    size_t m = word->m;
+    struct pattern w = {word->bits, word->fixed, m, (m + 7) / 8, 0, 0, 0, 0, m < 57 ? 64 - m : 7};
+    w.first = bytes64(w.bytes, w.len, 0), w.care = wild ? bytes64(w.fixed, w.len, 0) : ~0ull;
+    w.head = w.first >> w.cut, w.mask = w.care >> w.cut;
     return w;
 }
 
-static int __attribute__((noinline)) same_rest(const uint8_t *t, size_t len, const struct pattern *w, size_t s) {
-    if (w->m <= 64) return (bits64(t, len, s) ^ bytes64(w->bytes, w->len, 0)) >> (64 - w->m) == 0;
-    size_t o = 0;
-    for (; o + 64 < w->m; o += 64)
-        if (bits64(t, len, s + o) != be64(w->bytes + o / 8)) return 0;
-    return bits64(t, len, s + w->m - 64) == bits64(w->bytes, w->len, w->m - 64);
+static inline int has_wild(const struct word *w) {
+    size_t len = (w->m + 7) / 8, o = 0;
+    for (; o + 8 < len; o += 8)
+        if (be64(w->fixed + o) != ~0ull) return 1;
+    return ~bytes64(w->fixed, len, o) >> (64 - (w->m - 8 * o)) != 0;
 }
 
-static inline int same(const uint8_t *t, size_t len, const struct pattern *w, size_t s) {
+INLINE uint64_t where(uint64_t differ, uint64_t fixed, int wild) { return wild ? differ & fixed : differ; }
+
+INLINE int rest(const uint8_t *t, size_t len, const struct pattern *w, size_t s, int wild) {
+    const uint8_t *f = w->fixed;
+    if (w->m <= 64)
+        return where(bits64(t, len, s) ^ w->first, w->care, wild) >> (64 - w->m) == 0;
+    size_t o = 0, last = w->m - 64;
+    for (; o < last; o += 64)
+        if (where(bits64(t, len, s + o) ^ be64(w->bytes + o / 8), wild ? be64(f + o / 8) : 0, wild)) return 0;
+    return where(bits64(t, len, s + last) ^ bits64(w->bytes, w->len, last), wild ? bits64(f, w->len, last) : 0, wild) == 0;
+}
+
+static int __attribute__((noinline)) rest_fixed(const uint8_t *t, size_t len, const struct pattern *w, size_t s) {
+    return rest(t, len, w, s, 0);
+}
+
+static int __attribute__((noinline)) rest_wild(const uint8_t *t, size_t len, const struct pattern *w, size_t s) {
+    return rest(t, len, w, s, 1);
+}
+
+INLINE int same(const uint8_t *t, size_t len, const struct pattern *w, size_t s, int wild) {
     size_t b = s >> 3;
     if (b + 8 <= len) {
-        if (be64(t + b) << (s & 7) >> w->cut != w->head) return 0;
+        if (where(be64(t + b) << (s & 7) >> w->cut ^ w->head, w->mask, wild)) return 0;
         if (w->m <= 57) return 1;
     }
-    return same_rest(t, len, w, s);
+    return (wild ? rest_wild : rest_fixed)(t, len, w, s);
 }
 
 // Plain: rows of 64-bit pieces, cell 16 k + i a row's, 16 k + 8 + i its mask.
-static void plain_tables(const struct pattern *w, uint64_t *c) {
+INLINE void plain_tables(const struct pattern *w, uint64_t *c, int wild) {
     uint64_t x0 = 0, mask0 = 0;
     for (size_t k = 0; 64 * k < w->m + 7; k++) {
         size_t left = 64 * k < w->m ? w->m - 64 * k : 0;
         uint64_t mask = left >= 64 ? ~0ull : left ? ~0ull << (64 - left) : 0;
-        uint64_t x = left ? bytes64(w->bytes, w->len, 8 * k) & mask : 0;
+        if (wild && left) mask &= k ? bytes64(w->fixed, w->len, 8 * k) : w->care;
+        uint64_t x = !left ? 0 : (k ? bytes64(w->bytes, w->len, 8 * k) : w->first) & mask;
         for (size_t i = 0; i < 8; i++) {
             c[16 * k + i] = x0 << (63 - i) << 1 | x >> i;
             c[16 * k + 8 + i] = mask0 << (63 - i) << 1 | mask >> i;
@@ -115,7 +141,7 @@ static struct run plain(const uint8_t *t, size_t len, const struct pattern *w, c
 }
 
 // Hash: cell B the move after reading B.
-static void hash_tables(const struct pattern *w, uint64_t *c) {
+static void hash_tables(const struct pattern *restrict w, uint64_t *restrict c) {
     for (size_t i = 0; i < 256; i++) c[i] = w->m;
     for (size_t k = 1; k < 8; k++)
         for (size_t i = w->bytes[0] >> (8 - k); i < 256; i += (size_t)1 << k) c[i] = w->m - k;
@@ -127,13 +153,59 @@ static void hash_tables(const struct pattern *w, uint64_t *c) {
     for (; p + 8 < w->m; p++) c[bits8(w->bytes, p)] = w->m - 8 - p;
 }
 
-static struct run hash(const uint8_t *t, size_t len, const struct pattern *w, const uint64_t *c, size_t from, size_t end,
-                       size_t budget, uint32_t *list, size_t cells) {
-    unsigned last = bits8(w->bytes, w->m - 8);
+// Words of 64 places each, with a 1 where the pattern agrees with a value of four bits. The runs have the pattern's bits and
+// the second run's at the places that the value's first, second, third and last bit stands for.
+static void fours(const uint64_t *bits, const uint64_t *fixed, uint64_t *c) {
+    uint64_t two[2][4];
+    for (size_t i = 0; i < 2; i++) {
+        uint64_t p = bits[2 * i], f = fixed[2 * i], q = bits[2 * i + 1], g = fixed[2 * i + 1];
+        uint64_t first[2] = {~(p & f), p | ~f}, second[2] = {~(q & g), q | ~g};
+        for (size_t v = 0; v < 4; v++) two[i][v] = first[v >> 1] & second[v & 1];
+    }
+    for (size_t v = 0; v < 16; v++) c[v] = two[0][v >> 2] & two[1][v & 3];
+}
+
+// The 64 bits of a run that end d bits before its bit m, those before its first bit 0.
+static inline uint64_t ending(const uint8_t *s, size_t len, size_t m, size_t d) {
+    size_t left = m - d;
+    return left >= 64 ? bits64(s, len, left - 64) : left ? bytes64(s, len, 0) >> (64 - left) : 0;
+}
+
+// With wild bits many values may meet the condition at one move. 57 moves at a time, bit e of a word stands for the move
+// d + e. Only values are looked at that have no move yet, and of whose halves both agree somewhere.
+static void hash_tables_wild(const struct pattern *w, uint64_t *c) {
+    uint16_t unset[16];
+    memset(unset, 255, sizeof unset);
+    for (size_t d = 1, left = 1; left; d += 57) {
+        uint64_t p[4], f[4], half[16];
+        unsigned some = 0;
+        p[3] = ending(w->bytes, w->len, w->m, d), f[3] = ending(w->fixed, w->len, w->m, d);
+        for (size_t i = 0; i < 3; i++) p[i] = p[3] >> (3 - i), f[i] = f[3] >> (3 - i);
+        fours(p, f, half);
+        for (size_t v = 0; v < 16; v++) some |= (unsigned)(half[v] << 7 != 0) << v;
+        left = 0;
+        for (size_t high = 0; high < 16; high++) {
+            uint64_t later = half[high] >> 4 & ~0ull >> 7;
+            if (later)
+                for (unsigned try = unset[high] & some; try; try &= try - 1) {
+                    size_t low = __builtin_ctz(try);
+                    uint64_t moves = half[low] & later;
+                    if (!moves) continue;
+                    c[16 * high + low] = d + __builtin_ctzll(moves);
+                    unset[high] ^= 1u << low;
+                }
+            left |= unset[high];
+        }
+    }
+}
+
+INLINE struct run hash_go(const uint8_t *t, size_t len, const struct pattern *w, const uint64_t *c, size_t from, size_t end,
+                          size_t budget, uint32_t *list, size_t cells, int wild) {
+    unsigned care = wild ? bits8(w->fixed, w->m - 8) : 255, last = bits8(w->bytes, w->m - 8) & care;
     size_t s = from, steps = 0, hits = 0, e8 = w->m - 8;
     while (s < end && steps < budget) {
         unsigned v = bits8(t, s + e8);
-        if (v == last && same(t, len, w, s)) {
+        if ((v & care) == last && same(t, len, w, s, wild)) {
             if (hits == cells) return (struct run){s, steps, hits, 1};
             list[hits++] = s;
         }
@@ -141,6 +213,18 @@ static struct run hash(const uint8_t *t, size_t len, const struct pattern *w, co
         s += c[v];
     }
     return (struct run){s < end ? s : end, steps, hits, 0};
+}
+
+static __attribute__((noinline)) struct run hash(const uint8_t *t, size_t len, const struct pattern *w, uint64_t *c, size_t from,
+                                                 size_t end, size_t budget, uint32_t *list, size_t cells) {
+    hash_tables(w, c);
+    return hash_go(t, len, w, c, from, end, budget, list, cells, 0);
+}
+
+static struct run hash_wild(const uint8_t *t, size_t len, const struct pattern *w, uint64_t *c, size_t from, size_t end,
+                            size_t budget, uint32_t *list, size_t cells) {
+    hash_tables_wild(w, c);
+    return hash_go(t, len, w, c, from, end, budget, list, cells, 1);
 }
 
 // Skip: cell B one more than the greatest index of B, cell 256 + j the next lower one.
@@ -170,7 +254,7 @@ static struct run skip_go(const uint8_t *t, size_t len, const struct pattern *w,
         if (j)
             for (size_t low = end <= 8 * b ? 8 * b + 1 - end : 0; j > low; j = c[255 + j]) {
                 size_t a = 8 * b + 1 - j;
-                if (same(t, len, w, a)) {
+                if (same(t, len, w, a, 0)) {
                     if (hits == cells) return (struct run){a, steps, hits, 1};
                     list[hits++] = a;
                 }
@@ -193,20 +277,60 @@ static struct run skip(const uint8_t *t, size_t len, const struct pattern *w, ui
     return r;
 }
 
+// With wild bits: cell 32 k + h has a 1 at bit 63 - i where the four bits from index 64 k + i on agree with h, and cell
+// 32 k + 16 + l where the next four agree with l.
+static void skip_tables_wild(const struct pattern *w, uint64_t *c) {
+    for (size_t o = 0; o + 8 <= w->m; o += 64)
+        for (size_t half = 0; half < 2; half++, c += 16) {
+            uint64_t p[4], f[4];
+            for (size_t i = 0; i < 4; i++) {
+                p[i] = bits64(w->bytes, w->len, o + 4 * half + i);
+                f[i] = bits64(w->fixed, w->len, o + 4 * half + i);
+            }
+            fours(p, f, c);
+        }
+}
+
+// The places of a step rise as the indices fall, from the last one to the first that leaves a place before the end.
+static struct run skip_wild(const uint8_t *t, size_t len, const struct pattern *w, uint64_t *c, size_t from, size_t end,
+                            size_t budget, uint32_t *list, size_t cells) {
+    size_t s = from, steps = 0, hits = 0, stride = (w->m + 1) / 8 - 1;
+    skip_tables_wild(w, c);
+    for (size_t b = (s + w->m) / 8 - 1; s < end && steps < budget; b += stride) {
+        const uint64_t *high = c + (t[b] >> 4), *low = c + 16 + (t[b] & 15);
+        size_t most = 8 * b - s, least = end <= 8 * b ? 8 * b + 1 - end : 0;
+        uint64_t cut = ~0ull << (63 - most % 64);
+        for (size_t k = most / 64 + 1; k-- > least / 64; cut = ~0ull) {
+            uint64_t f = high[32 * k] & low[32 * k] & cut;
+            if (k == least / 64) f &= ~0ull >> least % 64;
+            for (; f; f &= f - 1) {
+                size_t a = 8 * b - (64 * k + 63 - __builtin_ctzll(f));
+                if (same(t, len, w, a, 1)) {
+                    if (hits == cells) return (struct run){a, steps, hits, 1};
+                    list[hits++] = a;
+                }
+            }
+        }
+        steps++;
+        s = 8 * b + 1;
+    }
+    return (struct run){s < end ? s : end, steps, hits, 0};
+}
+
 // Wide: cell 2 q + c the flags that stand when window bit q is c.
-static void wide_tables(const struct pattern *w, uint64_t *c) {
+INLINE void wide_tables(const struct pattern *w, uint64_t *c, int wild) {
     uint64_t zero = ~0ull, one = ~0ull;
     size_t q = 0;
     for (; q + 8 <= w->m; q += 8)
         for (size_t j = 0; j < 8; j++) {
-            uint64_t b = w->bytes[q / 8] >> (7 - j) & 1;
-            c[2 * (q + j)] = zero = zero << 1 | (1 - b);
-            c[2 * (q + j) + 1] = one = one << 1 | b;
+            uint64_t b = w->bytes[q / 8] >> (7 - j) & 1, open = wild ? ~w->fixed[q / 8] >> (7 - j) & 1 : 0;
+            c[2 * (q + j)] = zero = zero << 1 | (1 - b) | open;
+            c[2 * (q + j) + 1] = one = one << 1 | b | open;
         }
     for (; q < w->m; q++) {
-        uint64_t b = bit(w->bytes, q);
-        c[2 * q] = zero = zero << 1 | (1 - b);
-        c[2 * q + 1] = one = one << 1 | b;
+        uint64_t b = bit(w->bytes, q), open = wild ? 1 - bit(w->fixed, q) : 0;
+        c[2 * q] = zero = zero << 1 | (1 - b) | open;
+        c[2 * q + 1] = one = one << 1 | b | open;
     }
     for (; q < w->m + 63; q++) {
         c[2 * q] = zero = zero << 1 | 1;
@@ -214,9 +338,9 @@ static void wide_tables(const struct pattern *w, uint64_t *c) {
     }
 }
 
-static size_t wide_move(const struct pattern *w, unsigned c) {
+INLINE size_t wide_move(const struct pattern *w, unsigned c, int wild) {
     size_t k = w->m;
-    while (k && bit(w->bytes, k - 1) != c) k--;
+    while (k && where(bit(w->bytes, k - 1) ^ c, wild ? bit(w->fixed, k - 1) : 1, wild)) k--;
     return w->m + 64 - k;
 }
 
@@ -239,9 +363,9 @@ static inline uint64_t wide_scan(const uint8_t *t, size_t m, const uint64_t *c, 
     return f;
 }
 
-static struct run wide(const uint8_t *t, size_t len, size_t n, const struct pattern *w, const uint64_t *c, size_t from,
-                       size_t end, size_t budget, uint32_t *list, size_t cells) {
-    size_t move[2] = {wide_move(w, 0), wide_move(w, 1)}, ws = w->m + 63;
+INLINE struct run wide(const uint8_t *t, size_t len, size_t n, const struct pattern *w, const uint64_t *c, size_t from,
+                       size_t end, size_t budget, uint32_t *list, size_t cells, int wild) {
+    size_t move[2] = {wide_move(w, 0, wild), wide_move(w, 1, wild)}, ws = w->m + 63;
     size_t s = from, steps = 0, hits = 0;
     while (s < end && steps < budget) {
         uint64_t f = ~0ull;
@@ -253,7 +377,7 @@ static struct run wide(const uint8_t *t, size_t len, size_t n, const struct patt
         for (; f; f &= f - 1) {
             size_t a = s + __builtin_ctzll(f);
             if (a >= end) break;
-            if (same(t, len, w, a)) {
+            if (same(t, len, w, a, wild)) {
                 if (hits == cells) return (struct run){a, steps, hits, 1};
                 list[hits++] = a;
             }
@@ -264,15 +388,15 @@ static struct run wide(const uint8_t *t, size_t len, size_t n, const struct patt
     return (struct run){s < end ? s : end, steps, hits, 0};
 }
 
-// Tail: cell c a 1 at bit 63 - j for each index j at which the pattern is c.
+// Tail: cell c a 1 at bit 63 - j for each index j at which the pattern agrees with c.
 static void tail_tables(const struct pattern *w, uint64_t *c) {
-    uint64_t x = bytes64(w->bytes, w->len, 0), all = ~0ull << (64 - w->m);
-    c[0] = ~x & all;
-    c[1] = x & all;
+    uint64_t all = ~0ull << (64 - w->m);
+    c[0] = ~(w->first & w->care) & all;
+    c[1] = (w->first | ~w->care) & all;
 }
 
 // The window, of at most 64 bits, is read from its last bit on. After k bits d has a 1 at bit 63 - j for each index j
-// from which the pattern shows these k; bit 63 says that they are its first k. The greatest such k below m is the
+// from which the pattern agrees with these k; bit 63 says that they are its first k. The greatest such k below m is the
 // rule's r, and k = m is a hit.
 static struct run tail(const uint8_t *t, size_t len, size_t m, const uint64_t *c, size_t from, size_t end,
                        size_t budget, uint32_t *list, size_t cells) {
@@ -298,25 +422,38 @@ static struct run tail(const uint8_t *t, size_t len, size_t m, const uint64_t *c
     return (struct run){s < end ? s : end, steps, hits, 0};
 }
 
-void c_search(const uint8_t *text, uint64_t n, const uint8_t *pattern, uint64_t m, int method, uint32_t mark,
-              uint32_t budget, uint32_t *list, size_t cells, uint64_t *scratch, struct answer *out) {
-    size_t len = (n + 7) / 8, end = m <= n ? n - m + 1 : 0;
-    struct pattern w = pattern_of(pattern, m);
+INLINE void search(const uint8_t *text, size_t n, const struct word *pattern, int method, size_t mark, size_t budget,
+                   uint32_t *list, size_t cells, uint64_t *scratch, struct answer *out, int wild) {
+    struct pattern w = pattern_of(pattern, wild);
+    size_t len = (n + 7) / 8, end = w.m <= n ? n - w.m + 1 : 0;
     struct run r;
     if (method == PLAIN) {
-        plain_tables(&w, scratch);
+        plain_tables(&w, scratch, wild);
         r = plain(text, len, &w, scratch, mark, budget < end - mark ? mark + budget : end, list, cells);
     } else if (method == HASH) {
-        hash_tables(&w, scratch);
-        r = hash(text, len, &w, scratch, mark, end, budget, list, cells);
+        r = (wild ? hash_wild : hash)(text, len, &w, scratch, mark, end, budget, list, cells);
     } else if (method == SKIP) {
-        r = skip(text, len, &w, scratch, mark, end, budget, list, cells);
+        r = (wild ? skip_wild : skip)(text, len, &w, scratch, mark, end, budget, list, cells);
     } else if (method == WIDE) {
-        wide_tables(&w, scratch);
-        r = wide(text, len, n, &w, scratch, mark, end, budget, list, cells);
+        wide_tables(&w, scratch, wild);
+        r = wide(text, len, n, &w, scratch, mark, end, budget, list, cells, wild);
     } else {
         tail_tables(&w, scratch);
-        r = tail(text, len, m, scratch, mark, end, budget, list, cells);
+        r = tail(text, len, w.m, scratch, mark, end, budget, list, cells);
     }
     *out = (struct answer){0, r.steps, r.hits, r.at, r.full ? FULL : r.at == end ? DONE : SPENT};
+}
+
+static __attribute__((noinline)) void search_wild(const uint8_t *text, size_t n, const struct word *pattern, int method,
+                                                  size_t mark, size_t budget, uint32_t *list, size_t cells,
+                                                  uint64_t *scratch, struct answer *out) {
+    search(text, n, pattern, method, mark, budget, list, cells, scratch, out, 1);
+}
+
+void c_search(const uint8_t *text, uint64_t n, const struct word *pattern, int method, uint32_t mark, uint32_t budget,
+              uint32_t *list, size_t cells, uint64_t *scratch, struct answer *out) {
+    if (has_wild(pattern))
+        search_wild(text, n, pattern, method, mark, budget, list, cells, scratch, out);
+    else
+        search(text, n, pattern, method, mark, budget, list, cells, scratch, out, 0);
 }

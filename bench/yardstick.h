@@ -15,7 +15,13 @@ struct answer {
     uint64_t stop;
 };
 
+// A pattern: m bits, and the second run, in which a 1 stands for a fixed bit and a 0 for a wild one.
+struct word {
+    const uint8_t *bits, *fixed;
+    size_t m;
+};
+
 // A search call; scratch has the cells that the method takes for m (scratch_cells of rules.h), or more.
-void c_search(const uint8_t *text, uint64_t n, const uint8_t *pattern, uint64_t m, int method, uint32_t mark,
-              uint32_t budget, uint32_t *list, size_t cells, uint64_t *scratch, struct answer *out);
+void c_search(const uint8_t *text, uint64_t n, const struct word *pattern, int method, uint32_t mark, uint32_t budget,
+              uint32_t *list, size_t cells, uint64_t *scratch, struct answer *out);
 #endif
