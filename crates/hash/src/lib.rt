@@ -7,6 +7,7 @@ use matcher::Advance;
 use matcher::Found;
 use matcher::compare;
 use matcher::compare::Known;
+use matcher::wild;
 use rules::Method;
 ghost use mathlib.Core.Path.{_≡_};
 ghost use mathlib.Core.Logic.{_↔_};
@@ -18,7 +19,7 @@ ghost use Rattle.rules.specs.Wild.{AllFixed};
 ghost use Rattle.rules.specs.Occurrence.{places};
 ghost use Rattle.rules.specs.Step.{next};
 ghost use Rattle.hash.specs.HashMoves.{Entered};
-ghost use Rattle.hash.specs.HashWords.{Ending, Words, Only, Paired, RowMade, RowsMade, AllUnset};
+ghost use Rattle.hash.specs.HashWords.{RowMade, RowsMade, AllUnset};
 ghost use Rattle.rules.specs.Scratch.{scratchCells};
 ghost use Rattle.matcher.specs.Tables.{Prepared};
 ghost use Rattle.matcher.specs.Progress.{patternOf, textIn, patternIn, HeadOf, GoodPattern, Ready, Stepped, Advanced};
@@ -90,54 +91,14 @@ fn prepare_fixed(pattern: &[u8], fixed: &[u8], m: u32, cells: &mut [u64])
     enter(pattern, fixed, m, d, d, cells);
 }
 
-// The 64 bits of a run that end d bits before its bit m, those before its first bit 0.
-fn ending(run: &[u8], m: u32, d: u32) -> u64
-    requires { ⌜ d < m ⌝ }
-    ensures { λ r. ⌜ Ending (now (run .entry)) m d r ⌝ }
-{
-    let left = m - d;
-    if left < 64 {
-        return load::word_at(run, Place(0)) >> (64 - left);
-    }
-    load::word_at(run, Place(left - 64))
-}
-
-// With wild bits many values meet the condition at one move. So the moves are taken 56 at a time: bit e of a word stands for the
-// move d + e, and the word of a value of k bits has a 1 where the pattern agrees with it there. The cells from ONE on have the
-// words of one bit, those from TWO on the words of two and those from FOUR on the words of four. A bit of cell UNSET + h stands
-// for a value whose first four bits are h, and is 1 while that has no move.
-const ONE: usize = 256;
-
-const TWO: usize = 258;
+// With wild bits many values meet the condition at one move. So the moves are taken 56 at a time, by words of which bit e stands
+// for the move d + e (`matcher::wild`). They lie in the cells from WORDS on, those of four bits from FOUR on. A bit of cell
+// UNSET + h stands for a value whose first four bits are h, and is 1 while that has no move.
+const WORDS: usize = 256;
 
 const FOUR: usize = 262;
 
 const UNSET: usize = 278;
-
-// From the words of k bits those of 2 k: the word of the last k bits, and that of the first k, moved by k.
-fn pair_up(cells: &mut [u64], from: usize, to: usize, size: usize, k: u32)
-    requires { ⌜ (k < 64) × (size ≡ 2 ^ k) × (from + size ≤ to) × (to + size * size ≤ length (now cells)) ⌝ }
-    ensures { λ _. ⌜ Paired k from to (now (cells .entry)) (now (cells .exit)) ⌝ }
-{
-    let mut x = 0usize;
-    while x < size * size {
-        cells[to + x] = cells[from + (x & (size - 1))] & (cells[from + (x >> k)] >> k);
-        x += 1;
-    }
-}
-
-// The words of four bits for the moves from d on.
-fn line_up(pattern: &[u8], fixed: &[u8], m: u32, d: u32, cells: &mut [u64])
-    requires { ⌜ (d < m) × (512 ≤ length (now cells)) ⌝ }
-    ensures { λ _. ⌜ Words (patternOf (now (pattern .entry)) (now (fixed .entry)) m) d 4 262 (now (cells .exit)) × Only 256 278 (now (cells .entry)) (now (cells .exit)) ⌝ }
-{
-    let p = ending(pattern, m, d);
-    let f = ending(fixed, m, d);
-    cells[ONE] = (p & f) ^ ALL;
-    cells[ONE + 1] = (f & (p ^ ALL)) ^ ALL;
-    pair_up(cells, ONE, TWO, 2, 1);
-    pair_up(cells, TWO, FOUR, 4, 2);
-}
 
 // The moves d + 1 to d + 56 of the 16 values whose first four bits are `high`, for those in `unset` that have none yet: each gets
 // the least at which the words of its two halves agree. The answer has those that are left.
@@ -203,25 +164,10 @@ fn prepare_wild(pattern: &[u8], fixed: &[u8], m: u32, cells: &mut [u64])
     let mut d = 0u32;
     let mut unset = 1u64;
     while d < m && unset != 0 {
-        line_up(pattern, fixed, m, d, cells);
+        wild::line_up(pattern, fixed, m, d, cells, WORDS);
         unset = settle(cells, d);
         d += 56;
     }
-}
-
-// Whether no bit of the pattern is wild.
-fn all_fixed(pattern: &[u8], fixed: &[u8], m: u32) -> bool
-    requires { ⌜ (0 < m) × (m ≤ 2048) ⌝ }
-    ensures { λ r. ⌜ (r ≡ true) ↔ AllFixed (patternOf (now (pattern .entry)) (now (fixed .entry)) m) ⌝ }
-{
-    let mut o = 0u32;
-    while o + 64 < m {
-        if load::word_at_byte(fixed, Place(o).byte()) != ALL {
-            return false;
-        }
-        o += 64;
-    }
-    load::word_at_byte(fixed, Place(o).byte()) >> (64 - (m - o)) == ALL >> (64 - (m - o))
 }
 
 // The table: the quick way for a pattern without wild bits.
@@ -230,7 +176,7 @@ pub fn prepare(pattern: &[u8], fixed: &[u8], m: u32, cells: &mut [u64])
     requires { ⌜ scratchCells Method.Hash m ≤ length (now cells) ⌝ }
     ensures { λ _. ⌜ Prepared Method.Hash (patternOf (now (pattern .entry)) (now (fixed .entry)) m) (now (cells .entry)) (now (cells .exit)) ⌝ }
 {
-    if all_fixed(pattern, fixed, m) {
+    if wild::all_fixed(pattern, fixed, m) {
         prepare_fixed(pattern, fixed, m, cells);
     } else {
         prepare_wild(pattern, fixed, m, cells);

@@ -22,7 +22,8 @@ use Rattle.rules.proofs.Ranges.{eq-or-below}
 use Rattle.rules.proofs.Pattern.{agrees-one, agrees-zero}
 use Rattle.matcher.specs.Tables.{passes}
 use Rattle.wide.specs.Flags.{Enters, Entered, moved}
-use Rattle.wide.proofs.WideTables.{bitFor, half-weight, passes-high, passes-first, passes-along, Flags, Before, before-next, Filled}
+use Rattle.matcher.proofs.SingleBits.{half-weight}
+use Rattle.wide.proofs.WideTables.{bitFor, passes-high, passes-first, passes-along, Flags, Before, before-next, Filled}
 
 -- The bits that enter
 

@@ -27,7 +27,8 @@ use Rattle.rules.proofs.Ranges.{and-both, not-true-false, among-same}
 use Rattle.rules.proofs.Occurrence.{occurs-inside, none-from-places, occurrences-none, occurrences-append, occurrences-one, occurrences-further, occurrences-to}
 use Rattle.rules.proofs.Wide.{stands-matches, flagged-occurs}
 use Rattle.matcher.proofs.Writing.{writing-none, writing-more, stepped-whole, stepped-full}
-use Rattle.wide.proofs.WideTables.{bitFor, trailing-below, trailing-lt}
+use Rattle.matcher.proofs.SingleBits.{trailing-below, trailing-lt}
+use Rattle.wide.proofs.WideTables.{bitFor}
 use Rattle.wide.proofs.WideScan.{stands-after}
 
 -- the text's bit count plays no part in a comparison

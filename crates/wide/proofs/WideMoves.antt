@@ -24,7 +24,8 @@ use Rattle.matcher.specs.Tables.{WideTables}
 use Rattle.matcher.specs.Progress.{textOf}
 use Rattle.wide.specs.Flags.{Move, Marked}
 use Rattle.rules.proofs.Ranges.{and-left, and-right, Greatest, IsGreatest, greatest-is}
-use Rattle.wide.proofs.WideTables.{bitFor, bit-lit, bit-unlit, trailing-below, trailing-at, passes-in}
+use Rattle.matcher.proofs.SingleBits.{trailing-below, trailing-at}
+use Rattle.wide.proofs.WideTables.{bitFor, bit-lit, bit-unlit, passes-in}
 
 -- there is one greatest number, and it is the one that is found
 greatest-some : (f : ℕ → Bool) (k j : ℕ) → Greatest f k j → greatest f k ≡ some j

@@ -1,5 +1,5 @@
 -- Laws of the wide method's table: what a flag of a cell is, that flags move up with the window bits, and the table as it is
--- filled; and of the lowest flag that is set.
+-- filled.
 -- Assumes nothing.
 use mathlib.Core.Path.{_≡_, refl, sym, ap, _∙_}
 use mathlib.Core.Bool.{Bool, true, false, _&&_, cond}
@@ -31,39 +31,6 @@ bit-lit false e = absurd (omega arith)
 pub bit-unlit : (b : Bool) → bitFor b ≡ 0 → b ≡ false
 bit-unlit true e = absurd (omega arith)
 bit-unlit false e = refl
-
--- The lowest bit that is set
-
-pub half-weight : (n i : ℕ) → weight n (suc i) ≡ weight (n / 2) i
-half-weight n i = ap (weight n) (omega arith) ∙ sym (weight-shr n 1 i)
-
-pub trailing-below : (k n i : ℕ) → i < trailingZeros k n → weight n i ≡ 0
-unfolding trailingZeros
-trailing-below zero n i h = absurd (not-suc-le-zero h)
-trailing-below (suc k) n i h = go (n % 2) refl i (λ i l. trailing-below k (n / 2) i l) h
-  where
-    go : (d : ℕ) → n % 2 ≡ d → (i : ℕ) → ((i : ℕ) → i < trailingZeros k (n / 2) → weight (n / 2) i ≡ 0)
-        → i < under d (trailingZeros k (n / 2)) → weight n i ≡ 0
-    go zero e zero ih h = omega arith
-    go zero e (suc i) ih h = half-weight n i ∙ ih i (le-of-suc-le-suc h)
-    go (suc d) e i ih h = absurd (not-suc-le-zero h)
-
-pub trailing-at : (k n : ℕ) → trailingZeros k n < k → weight n (trailingZeros k n) ≡ 1
-unfolding trailingZeros
-trailing-at zero n h = absurd (not-suc-le-zero h)
-trailing-at (suc k) n h = go (n % 2) refl (trailing-at k (n / 2)) h
-  where
-    go : (d : ℕ) → n % 2 ≡ d → (trailingZeros k (n / 2) < k → weight (n / 2) (trailingZeros k (n / 2)) ≡ 1)
-        → under d (trailingZeros k (n / 2)) < suc k → weight n (under d (trailingZeros k (n / 2))) ≡ 1
-    go zero e ih h = half-weight n (trailingZeros k (n / 2)) ∙ ih (le-of-suc-le-suc h)
-    go (suc d) e ih h = omega arith
-
-pub trailing-lt : (j k n : ℕ) → n < 2 ^ k → (n ≡ 0 → ⊥) → trailingZeros j n < k
-trailing-lt j k n h ne = go (decLe k (trailingZeros j n))
-  where
-    go : Dec (k ≤ trailingZeros j n) → trailingZeros j n < k
-    go (yes l) = absurd (ne (same-weights k n 0 h (pow-pos k) (λ i u. trailing-below j n i (omega arith) ∙ sym (weight-zero i))))
-    go (no l) = omega arith
 
 -- A flag of a window bit
 

@@ -10,8 +10,10 @@ use denote.Ref.{now}
 use Rattle.rules.specs.declared.Method.the-variants.{Hash}
 use Rattle.matcher.specs.Progress.{patternOf}
 use Rattle.matcher.specs.Tables.{Prepared}
-use Rattle.hash.specs.HashWords.{Settled, AllEntered, Only}
-use Rattle.hash.proofs.HashRows.{settled-none, settled-same, settled-all, only-none, only-then, only-wider}
+use Rattle.matcher.specs.Lined.{Only}
+use Rattle.hash.specs.HashWords.{Settled, AllEntered}
+use Rattle.matcher.proofs.LinedCells.{only-none, only-then, only-wider}
+use Rattle.hash.proofs.HashRows.{settled-none, settled-same, settled-all}
 use Rattle.hash.proofs.prepare_wild.Statement.{statement}
 use Rattle.hash.proofs.prepare_wild.Tie as tie
 

@@ -10,9 +10,11 @@ use lib.Count.{trailingZeros, trailing-le}
 use lib.ListN.{getD}
 use lib.Pow.{shr-le}
 use Rattle.rules.specs.Pattern.{Pattern}
-use Rattle.hash.specs.HashWords.{Words, Row, Only}
-use Rattle.hash.proofs.HashBits.{trailing-lt, turn-few}
-use Rattle.hash.proofs.HashRows.{Entering, movesOf, row-later, entering-none, entering-pass, entering-set, entering-all, only-none, only-set}
+use Rattle.matcher.specs.Lined.{Words, Only}
+use Rattle.hash.specs.HashWords.{Row}
+use Rattle.matcher.proofs.SingleBits.{trailing-lt, turn-few}
+use Rattle.matcher.proofs.LinedCells.{only-none, only-set}
+use Rattle.hash.proofs.HashRows.{Entering, movesOf, row-later, entering-none, entering-pass, entering-set, entering-all}
 use Rattle.hash.proofs.settle_row.Statement.{statement}
 use Rattle.hash.proofs.settle_row.Tie as tie
 

@@ -9,8 +9,8 @@ use native.Mathlib.Omega.{arith}
 use lib.ListN.{length, getD, set}
 use lib.Seq.{getD-set-same, getD-set-other}
 use Rattle.rules.proofs.Ranges.{eq-or-below}
-use Rattle.hash.specs.HashWords.{Only}
-use Rattle.hash.proofs.HashRows.{only-none, only-set}
+use Rattle.matcher.specs.Lined.{Only}
+use Rattle.matcher.proofs.LinedCells.{only-none, only-set}
 use Rattle.hash.proofs.unset_all.Statement.{statement}
 use Rattle.hash.proofs.unset_all.Tie as tie
 

@@ -18,7 +18,7 @@ use Rattle.rules.proofs.Ranges.{same-test}
 
 -- The lowest bit of a number
 
-half-weight : (n i : ℕ) → weight n (suc i) ≡ weight (n / 2) i
+pub half-weight : (n i : ℕ) → weight n (suc i) ≡ weight (n / 2) i
 half-weight n i = ap (weight n) (omega arith) ∙ sym (weight-shr n 1 i)
 
 pub trailing-below : (k n i : ℕ) → i < trailingZeros k n → weight n i ≡ 0

@@ -1,4 +1,4 @@
--- `hash::all_fixed` meets its contract. The loop's invariant: the bits passed are fixed.
+-- `matcher::wild::all_fixed` meets its contract. The loop's invariant: the bits passed are fixed.
 -- Assumes nothing.
 use borrow.Author.Needs.{needs}
 use mathlib.Core.Path.{_≡_, sym, ap, _∙_}
@@ -7,10 +7,10 @@ use Prim.Native.Nat.{ℕ, _-_, _*_, _%_, _<_}
 use native.Mathlib.Omega.{arith}
 use denote.Ref.{now}
 use Rattle.bits.specs.Packed.{bitsAt}
 use Rattle.matcher.specs.Progress.{patternOf}
-use Rattle.hash.proofs.HashTables.{FixedTo, fixed-more, fixed-load, fixed-last}
-use Rattle.hash.proofs.all_fixed.Statement.{statement}
-use Rattle.hash.proofs.all_fixed.Tie as tie
+use Rattle.matcher.proofs.AllFixed.{FixedTo, fixed-more, fixed-load, fixed-last}
+use Rattle.matcher.proofs.wild.all_fixed.Statement.{statement}
+use Rattle.matcher.proofs.wild.all_fixed.Tie as tie
 
 abbrev Inv-loop : tie.InvT-loop
 Inv-loop pattern fixed m o₀ o = (o < m) × (o % 8 ≡ 0) × FixedTo (patternOf pattern fixed m) o

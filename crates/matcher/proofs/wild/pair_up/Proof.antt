@@ -1,4 +1,4 @@
--- `hash::pair_up` meets its contract. The loop's invariant: the words of the values passed are made.
+-- `matcher::wild::pair_up` meets its contract. The loop's invariant: the words of the values passed are made.
 -- Assumes nothing.
 use borrow.Author.Needs.{needs}
 use mathlib.Core.Path.{_≡_, _∙_}
@@ -7,10 +7,10 @@ use native.Mathlib.Omega.{arith}
 use denote.Ref.{now}
 use lib.Bits.{bitAnd}
 use lib.Pow.{pow-add}
-use Rattle.hash.specs.HashWords.{Only}
-use Rattle.hash.proofs.HashRows.{PairsTo, last-lt, first-lt, pairs-more, only-none, only-set}
-use Rattle.hash.proofs.pair_up.Statement.{statement}
-use Rattle.hash.proofs.pair_up.Tie as tie
+use Rattle.matcher.specs.Lined.{Only}
+use Rattle.matcher.proofs.LinedCells.{PairsTo, last-lt, first-lt, pairs-more, only-none, only-set}
+use Rattle.matcher.proofs.wild.pair_up.Statement.{statement}
+use Rattle.matcher.proofs.wild.pair_up.Tie as tie
 
 abbrev Inv-loop : tie.InvT-loop
 Inv-loop cells₀ from to size k x₀ cells x =
