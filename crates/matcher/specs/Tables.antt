@@ -1,7 +1,7 @@
 -- What each method's tables hold. They lie in the first cells of the scratch, as many as `scratchCells` has for the method.
-use Prim.Native.Nat.{ℕ, zero, suc, _+_, _-_, _*_, _/_, _%_, _^_, _<_}
+use Prim.Native.Nat.{ℕ, zero, suc, _+_, _-_, _*_, _/_, _%_, _≤_, _<_}
 use mathlib.Core.Path.{_≡_}
-use mathlib.Core.Bool.{Bool, true, false, not, _&&_, cond}
+use mathlib.Core.Bool.{Bool, _&&_, cond}
 use mathlib.Core.List.{List}
 use lib.Dec.{leb, ltb, eqb}
 use lib.ListN.{length, getD, drop}
@@ -12,7 +12,9 @@ use Rattle.rules.specs.Ranges.{implies, every}
 use Rattle.rules.specs.Pattern.{Pattern, agrees}
 use Rattle.rules.specs.Plain.{rowBit, maskBit}
 use Rattle.rules.specs.Hash.{hashAgain}
+use Rattle.rules.specs.Wild.{AllFixed}
 use Rattle.rules.specs.Scratch.{scratchCells}
+use Rattle.matcher.specs.Lined.{Words}
 
 -- plain: how many cells of eight row bytes the longest row takes
 abbrev pub rowChunks : ℕ → ℕ
@@ -38,32 +40,29 @@ lastBelow f (suc k) = cond (f k) (suc k) (lastBelow f k)
 unfoldable pub showsByte : Pattern → ℕ → ℕ → Bool
 showsByte w B k = every 8 (λ j. agrees w (k + j) (bitOf 8 B j))
 
--- its eight bits from index k on are fixed
-unfoldable pub solid : Pattern → ℕ → Bool
-solid w k = eqb (bitsAt (w .fixed) k 8) 255
-
--- they are, and show the byte B: index k stands in the chain of B
+-- its eight bits from index k on are the byte B: where they are fixed, it shows just that one
 unfoldable pub inChain : Pattern → ℕ → ℕ → Bool
-inChain w B k = solid w k && eqb (bitsAt (w .bytes) k 8) B
-
--- one of them is wild: index k stands in the one chain of such indices
-unfoldable pub inWild : Pattern → ℕ → Bool
-inWild w k = not (solid w k)
+inChain w B k = eqb (bitsAt (w .bytes) k 8) B
 
 -- skip: a step from a mark 8 b + 1 has so many places, and the chains hold as many indices
 unfoldable pub chained : ℕ → ℕ
 chained m = (m + 1) / 8 * 8 - 8
 
--- skip: in cell B the head of the chain of B, highest index first, and in cell 256 + j the link after index j; in cell 255 + m
--- the head of the chain of the indices with a wild bit, and beside the link after such an index, from bits 16 and 24 on, the
--- eight bits that the pattern has there and which of them are fixed
-pub record SkipTables (w : Pattern) (cells : List ℕ) : Type 0 where
+-- skip, every bit being fixed: in cell B the head of the chain of B, highest index first, and in cell 256 + j the link after index j
+pub record ChainTables (w : Pattern) (cells : List ℕ) : Type 0 where
+  pub all-fixed : AllFixed w
   pub head-is : (B : ℕ) → B < 256 → getD cells B 0 ≡ lastBelow (inChain w B) (chained (w .count))
-  pub link-is : (j : ℕ) → j < chained (w .count) → solid w j ≡ true
-      → getD cells (256 + j) 0 ≡ lastBelow (inChain w (bitsAt (w .bytes) j 8)) j
-  pub wild-head-is : getD cells (255 + w .count) 0 ≡ lastBelow (inWild w) (chained (w .count))
-  pub wild-link-is : (j : ℕ) → j < chained (w .count) → solid w j ≡ false
-      → getD cells (256 + j) 0 ≡ lastBelow (inWild w) j + 2 ^ 16 * bitsAt (w .bytes) j 8 + 2 ^ 24 * bitsAt (w .fixed) j 8
+  pub link-is : (j : ℕ) → j < chained (w .count) → getD cells (256 + j) 0 ≡ lastBelow (inChain w (bitsAt (w .bytes) j 8)) j
+
+-- skip, for any pattern: in the cells from 22 k + 6 on the words of four bits for the moves from 56 k on. Index m − 8 − d shows a byte
+-- just if the move d brings its eight bits under the pattern's last ones.
+pub record WordTables (w : Pattern) (cells : List ℕ) : Type 0 where
+  pub words-are : (k : ℕ) → 56 * k + 8 ≤ w .count → Words w (56 * k) 4 (22 * k + 6) cells
+
+-- skip has one of the two, told by cell 255 + m, which neither uses
+pub record SkipTables (w : Pattern) (cells : List ℕ) : Type 0 where
+  pub chains : getD cells (255 + w .count) 0 ≡ 0 → ChainTables w cells
+  pub words : (getD cells (255 + w .count) 0 ≡ 0 → ⊥) → WordTables w cells
 
 -- the window bit q, being c, leaves flag i standing: q − i is no index of the pattern, or its bit there is c
 unfoldable pub passes : Pattern → ℕ → ℕ → ℕ → Bool

@@ -1,7 +1,8 @@
--- The laws of the skip method's tables and steps.
+-- Laws of the skip method's chains, words and steps.
 pub mod SkipBelow
 pub mod SkipShows
 pub mod SkipChain
 pub mod SkipFilling
-pub mod SkipStep
+pub mod SkipWords
 pub mod SkipSizes
+pub mod SkipStep

@@ -1,6 +1,6 @@
 -- Laws of `lastBelow`: one more than the last number below a bound at which a test passes, or 0.
 -- Assumes nothing.
-use Prim.Native.Nat.{ℕ, zero, suc, _+_, _-_, _≤_, _<_, max}
+use Prim.Native.Nat.{ℕ, zero, suc, _+_, _-_, _≤_, _<_}
 use mathlib.Core.Path.{_≡_, refl, sym, _∙_}
 use mathlib.Core.Logic.{inl, inr}
 use mathlib.Core.Bool.{Bool, true, false, true≢false, cond}
@@ -76,38 +76,13 @@ module _ (f : ℕ → Bool) where
       let u = below-is k in
       rw e (below-lower k (lastBelow f k) (omega arith) (u .within))
 
--- a second test passes wherever the first does: the numbers from its last one on do not matter to the first
-pub below-part : (f g : ℕ → Bool) (k : ℕ) → ((i : ℕ) → i < k → f i ≡ true → g i ≡ true) → lastBelow f (lastBelow g k) ≡ lastBelow f k
-below-part f g k part =
-    let u = below-is f k in
-    let v = below-is g k in
-    below-lower f k (lastBelow g k) (go (decLe (lastBelow f k) (lastBelow g k))) (v .within)
-  where
-    go : Dec (lastBelow f k ≤ lastBelow g k) → lastBelow f k ≤ lastBelow g k
-    go (yes p) = p
-    go (no p) =
-        let i = lastBelow f k - 1 in
-        let u = below-is f k in
-        let v = below-is g k in
-        absurd (true≢false (sym (part i (omega (arith, u .within)) (u .passes i (omega arith))) ∙ v .none i (omega arith) (omega (arith, u .within))))
-
--- a test that passes just where one of two does: the greater of theirs
-pub below-either : (f g h : ℕ → Bool) (k : ℕ) → ((i : ℕ) → g i ≡ true → f i ≡ true) → ((i : ℕ) → h i ≡ true → f i ≡ true)
-    → ((i : ℕ) → g i ≡ false → h i ≡ false → f i ≡ false) → lastBelow f k ≡ max (lastBelow g k) (lastBelow h k)
-below-either f g h k one other none =
-    below-eq f k (max (lastBelow g k) (lastBelow h k))
+-- two tests that pass alike
+pub below-same : (f g : ℕ → Bool) (k : ℕ) → ((i : ℕ) → i < k → f i ≡ g i) → lastBelow f k ≡ lastBelow g k
+below-same f g k same =
+    let u = below-is g k in
+    below-eq f k (lastBelow g k)
     (record {
-      within = omega (arith, u .within, v .within);
-      passes = λ j e. go j e (decLe (lastBelow h k) (lastBelow g k));
-      none = λ i l b. none i (u .none i (omega arith) b) (v .none i (omega arith) b);
+      within = u .within;
+      passes = λ j e. same j (omega (arith, u .within)) ∙ u .passes j e;
+      none = λ i l h. same i h ∙ u .none i l h;
     })
-  where
-    u : Below g k (lastBelow g k)
-    u = below-is g k
-
-    v : Below h k (lastBelow h k)
-    v = below-is h k
-
-    go : (j : ℕ) → max (lastBelow g k) (lastBelow h k) ≡ suc j → Dec (lastBelow h k ≤ lastBelow g k) → f j ≡ true
-    go j e (yes p) = one j (u .passes j (omega arith))
-    go j e (no p) = other j (v .passes j (omega arith))

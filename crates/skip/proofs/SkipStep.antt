@@ -96,6 +96,10 @@ module _ (t : Packed) (w : Pattern) where
 pub span-fits : (s m : ℕ) → 15 ≤ m → 8 * ((s + m) / 8 - 1) + 1 - s + 7 ≤ m
 span-fits s m long = omega arith
 
+-- and the last one is among the pattern's last eight
+pub span-near : (s m : ℕ) → 15 ≤ m → m < 8 * ((s + m) / 8 - 1) + 1 - s + 15
+span-near s m long = omega arith
+
 pub below-top : (x j : ℕ) → 0 < j → j ≤ x → x - j < x
 below-top x j g l = omega arith
 

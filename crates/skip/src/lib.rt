@@ -1,9 +1,12 @@
-// The skip method: one whole byte of the text decides many places. Cell B, below 256, is the head of the chain of the
-// pattern's indices whose eight bits are all fixed and are the byte B, highest first; cell 255 + m, which no link takes, is
-// the head of the chain of the indices that have a wild bit there. Cell 256 + j is the link after index j. Head and link are
-// one more than an index, and 0 ends the chain; beside the link of an index with a wild bit stand its eight bits and which of
-// them are fixed. After a step the mark is 8 b + 1, b being the byte: `step` makes one step from any mark, through links of
-// both chains that keep to its places, and `advance` many from such marks, whose chains are those of the tables.
+// The skip method: one whole byte of the text decides many places. There are two kinds of tables. Where every bit of the
+// pattern is fixed, cell B, below 256, is the head of the chain of the indices at which the pattern shows the byte B,
+// highest first, and cell 256 + j is the link after index j. Head and link are one more than an index, and 0 ends the chain.
+// With wild bits an index shows many bytes. Then the cells hold words of flags (`matcher::wild`), 22 for each 56 indices from
+// the last one down: two loads and an `and` tell which of these show a byte, and the lowest flag is the highest index. Cell
+// 255 + m, which neither kind uses, tells which it is.
+//
+// After a step the mark is 8 b + 1, b being the byte: `step` makes one step from any mark, through links that keep to its
+// places, and `advance` many from such marks.
 use bits::ByteNo;
 use bits::Place;
 use bits::load;
@@ -11,16 +14,17 @@ use matcher::Advance;
 use matcher::Found;
 use matcher::compare;
 use matcher::compare::Known;
+use matcher::wild;
 use rules::Method;
 ghost use mathlib.Core.Path.{_≡_};
 ghost use mathlib.Core.List.{_++_};
-ghost use mathlib.Core.Bool.{true};
-ghost use Prim.Native.Nat.{ℕ, _+_, _-_, _*_, _/_, _^_, _≤_, _<_, max};
+ghost use Prim.Native.Nat.{_+_, _-_, _*_, _/_, _^_, _≤_, _<_};
 ghost use lib.ListN.{length, getD, drop, replicate};
+ghost use Rattle.rules.specs.Wild.{AllFixed};
 ghost use Rattle.rules.specs.Occurrence.{places};
-ghost use Rattle.skip.specs.SkipChains.{Filled, wildShows, lastShown, Walking};
+ghost use Rattle.skip.specs.SkipChains.{Filled, lastShown, Flags, Flagging, Walking};
 ghost use Rattle.rules.specs.Scratch.{scratchCells};
-ghost use Rattle.matcher.specs.Tables.{chained, lastBelow, solid, inWild, SkipTables, Prepared};
+ghost use Rattle.matcher.specs.Tables.{chained, lastBelow, inChain, ChainTables, WordTables, SkipTables, Prepared};
 ghost use Rattle.matcher.specs.Progress.{patternOf, textIn, patternIn, HeadOf, GoodPattern, Ready, Stepped, Advanced};
 
 const ALL: u64 = 18446744073709551615;
@@ -53,12 +57,11 @@ fn clear(cells: &mut [u64])
     }
 }
 
-// Enters k indices from j on, rising, each at the head of its chain, where the eight bits of each are fixed: the bytes that
-// the pattern shows there begin one bit after the other in one load.
-fn enter_fixed(pattern: &[u8], fixed: &[u8], m: u32, j: u32, k: u32, cells: &mut [u64])
+// Enters k indices from j on, rising, each at the head of its chain: the bytes that the pattern shows there begin one bit
+// after the other in one load.
+fn enter(pattern: &[u8], fixed: &[u8], m: u32, j: u32, k: u32, cells: &mut [u64])
     requires { ⌜ (j + k < m) × (m ≤ 2048) × (k ≤ 57) × (256 + m ≤ length (now cells)) ⌝ }
     requires { ⌜ Filled (patternOf (now pattern) (now fixed) m) (now cells) j (now cells) ⌝ }
-    requires { ⌜ ((r : ℕ) → r < k → solid (patternOf (now pattern) (now fixed) m) (j + r) ≡ true) ⌝ }
     ensures { λ _. ⌜ Filled (patternOf (now (pattern .entry)) (now (fixed .entry)) m) (now (cells .entry)) (j + k) (now (cells .exit)) ⌝ }
 {
     let mut x = load::word_at(pattern, Place(j));
@@ -73,51 +76,10 @@ fn enter_fixed(pattern: &[u8], fixed: &[u8], m: u32, j: u32, k: u32, cells: &mut
     }
 }
 
-// The same where some of the bits may be wild.
-fn enter_wild(pattern: &[u8], fixed: &[u8], m: u32, j: u32, k: u32, cells: &mut [u64])
-    requires { ⌜ (j + k < m) × (m ≤ 2048) × (k ≤ 57) × (256 + m ≤ length (now cells)) ⌝ }
-    requires { ⌜ Filled (patternOf (now pattern) (now fixed) m) (now cells) j (now cells) ⌝ }
-    ensures { λ _. ⌜ Filled (patternOf (now (pattern .entry)) (now (fixed .entry)) m) (now (cells .entry)) (j + k) (now (cells .exit)) ⌝ }
-{
-    let end = 255 + m as usize;
-    let mut shown = load::word_at(pattern, Place(j));
-    let mut care = load::word_at(fixed, Place(j));
-    let mut r = 0u32;
-    while r < k {
-        let v = shown >> 56;
-        let ones = care >> 56;
-        let i = j + r;
-        let here = 256 + i as usize;
-        if ones == 255 {
-            let head = v as usize;
-            cells[here] = cells[head];
-            cells[head] = (i + 1) as u64;
-        } else {
-            cells[here] = cells[end] + (v << 16) + (ones << 24);
-            cells[end] = (i + 1) as u64;
-        }
-        shown = shown << 1;
-        care = care << 1;
-        r += 1;
-    }
-}
-
-// Whichever of the two does it.
-fn enter(pattern: &[u8], fixed: &[u8], m: u32, j: u32, k: u32, cells: &mut [u64])
-    requires { ⌜ (j + k < m) × (m ≤ 2048) × (k ≤ 57) × (256 + m ≤ length (now cells)) ⌝ }
-    requires { ⌜ Filled (patternOf (now pattern) (now fixed) m) (now cells) j (now cells) ⌝ }
-    ensures { λ _. ⌜ Filled (patternOf (now (pattern .entry)) (now (fixed .entry)) m) (now (cells .entry)) (j + k) (now (cells .exit)) ⌝ }
-{
-    if load::word_at(fixed, Place(j)) >> (57 - k) == ALL >> (57 - k) {
-        enter_fixed(pattern, fixed, m, j, k, cells);
-    } else {
-        enter_wild(pattern, fixed, m, j, k, cells);
-    }
-}
-
-// Enters the indices of the places of a step from a mark 8 b + 1 on, 56 by one load.
-pub fn prepare(pattern: &[u8], fixed: &[u8], m: u32, cells: &mut [u64])
+// The chains: the indices of the places of a step from a mark 8 b + 1 on, 56 by one load.
+fn prepare_chains(pattern: &[u8], fixed: &[u8], m: u32, cells: &mut [u64])
     requires { ⌜ GoodPattern Method.Skip (patternOf (now pattern) (now fixed) m) ⌝ }
+    requires { ⌜ AllFixed (patternOf (now pattern) (now fixed) m) ⌝ }
     requires { ⌜ scratchCells Method.Skip m ≤ length (now cells) ⌝ }
     ensures { λ _. ⌜ Prepared Method.Skip (patternOf (now (pattern .entry)) (now (fixed .entry)) m) (now (cells .entry)) (now (cells .exit)) ⌝ }
 {
@@ -132,99 +94,179 @@ pub fn prepare(pattern: &[u8], fixed: &[u8], m: u32, cells: &mut [u64])
     enter(pattern, fixed, m, j, count - j, cells);
 }
 
-// Where a walk along the two chains has come to: the next link of each, of which that of an index with a wild bit shows the
-// byte, and the one to try first. That is the greater one, whose place comes first, but for an index that is not chained: it
-// is tried whatever it shows.
+// The words, for 56 indices at a time.
+fn prepare_words(pattern: &[u8], fixed: &[u8], m: u32, cells: &mut [u64])
+    requires { ⌜ GoodPattern Method.Skip (patternOf (now pattern) (now fixed) m) ⌝ }
+    requires { ⌜ scratchCells Method.Skip m ≤ length (now cells) ⌝ }
+    ensures { λ _. ⌜ Prepared Method.Skip (patternOf (now (pattern .entry)) (now (fixed .entry)) m) (now (cells .entry)) (now (cells .exit)) ⌝ }
+{
+    cells[255 + m as usize] = 1;
+    let mut k = 0u32;
+    while 56 * k + 8 <= m {
+        wild::line_up(pattern, fixed, m, 56 * k, cells, (22 * k) as usize);
+        k += 1;
+    }
+}
+
+// The tables of the kind that fits the pattern.
+pub fn prepare(pattern: &[u8], fixed: &[u8], m: u32, cells: &mut [u64])
+    requires { ⌜ GoodPattern Method.Skip (patternOf (now pattern) (now fixed) m) ⌝ }
+    requires { ⌜ scratchCells Method.Skip m ≤ length (now cells) ⌝ }
+    ensures { λ _. ⌜ Prepared Method.Skip (patternOf (now (pattern .entry)) (now (fixed .entry)) m) (now (cells .entry)) (now (cells .exit)) ⌝ }
+{
+    if wild::all_fixed(pattern, fixed, m) {
+        prepare_chains(pattern, fixed, m, cells);
+    } else {
+        prepare_words(pattern, fixed, m, cells);
+    }
+}
+
+// Where a walk over the indices that show a byte has come to: the link to try, and by words the flags left of its block.
 struct Links {
     first: u64,
-    solid: u64,
-    wild: u64,
+    block: u32,
+    left: u64,
 }
 
-fn links_of(solid: u64, wild: u64) -> Links
-    ensures { λ r. ⌜ (r .first ≡ max solid wild) × (r .solid ≡ solid) × (r .wild ≡ wild) ⌝ }
-{
-    Links {
-        first: if solid < wild { wild } else { solid },
-        solid: solid,
-        wild: wild,
-    }
-}
-
-// The first link from j on, of the chain of the indices with a wild bit, whose index shows the byte v, or 0.
-fn wild_link(pattern: &[u8], fixed: &[u8], m: u32, cells: &[u64], v: u8, j: u64) -> u64
-    requires { ⌜ SkipTables (patternOf (now pattern) (now fixed) m) (now cells) ⌝ }
-    requires { ⌜ (256 + m ≤ length (now cells)) × (15 ≤ m) × (m ≤ 2048) × (j ≤ chained m) ⌝ }
-    requires { ⌜ lastBelow (inWild (patternOf (now pattern) (now fixed) m)) j ≡ j ⌝ }
-    ensures { λ r. ⌜ r ≡ lastBelow (wildShows (patternOf (now (pattern .entry)) (now (fixed .entry)) m) v) j ⌝ }
-{
-    let byte = v as u64;
-    let mut k = j;
-    while k != 0 {
-        let c = cells[(255 + k) as usize];
-        if ((c >> 16) ^ byte) & (c >> 24) == 0 {
-            return k;
-        }
-        k = c % 65536;
-    }
-    0
-}
-
-// The links to try first for the places from index k - 1 down: the heads of the chains without the indices from k on.
-fn first_links(pattern: &[u8], fixed: &[u8], m: u32, cells: &[u64], v: u8, k: u32) -> Links
-    requires { ⌜ SkipTables (patternOf (now pattern) (now fixed) m) (now cells) ⌝ }
-    requires { ⌜ (256 + m ≤ length (now cells)) × (15 ≤ m) × (m ≤ 2048) × (k ≤ m) ⌝ }
-    ensures { λ r. ⌜ (r .first ≤ k) × (lastShown (patternOf (now (pattern .entry)) (now (fixed .entry)) m) v k ≤ r .first) × Walking (patternOf (now (pattern .entry)) (now (fixed .entry)) m) v r ⌝ }
+// The link to try first for the places from index k - 1 down: the head of v's chain without the indices from k on. An index
+// that is not chained is tried whatever it shows.
+fn first_link(pattern: &[u8], fixed: &[u8], m: u32, cells: &[u64], v: u8, k: u32) -> u64
+    requires { ⌜ ChainTables (patternOf (now pattern) (now fixed) m) (now cells) ⌝ }
+    requires { ⌜ (256 + m ≤ length (now cells)) × (15 ≤ m) × (m ≤ 2048) ⌝ }
+    ensures { λ r. ⌜ (r ≤ k) × (lastShown (patternOf (now (pattern .entry)) (now (fixed .entry)) m) v k ≤ r) × (r ≤ chained m → lastBelow (inChain (patternOf (now (pattern .entry)) (now (fixed .entry)) m) v) r ≡ r) ⌝ }
 {
     let high = k as u64;
-    let mut solid = cells[v as usize];
-    while high < solid {
-        solid = cells[(255 + solid) as usize];
-    }
-    let mut j = cells[255 + m as usize];
-    while high < j {
-        j = cells[(255 + j) as usize] % 65536;
-    }
-    let wild = wild_link(pattern, fixed, m, cells, v, j);
     if indices(m) < k {
-        return Links {
-            first: high,
-            solid: solid,
-            wild: wild,
-        };
+        return high;
     }
-    links_of(solid, wild)
+    let mut j = cells[v as usize];
+    while high < j {
+        j = cells[(255 + j) as usize];
+    }
+    j
 }
 
-// The links to try after the first one.
+// The link to try after j.
+fn next_link(pattern: &[u8], fixed: &[u8], m: u32, cells: &[u64], v: u8, j: u64) -> u64
+    requires { ⌜ ChainTables (patternOf (now pattern) (now fixed) m) (now cells) ⌝ }
+    requires { ⌜ (256 + m ≤ length (now cells)) × (15 ≤ m) × (m ≤ 2048) × (0 < j) × (j ≤ m) ⌝ }
+    requires { ⌜ (j ≤ chained m → lastBelow (inChain (patternOf (now pattern) (now fixed) m) v) j ≡ j) ⌝ }
+    ensures { λ r. ⌜ (r < j) × (lastShown (patternOf (now (pattern .entry)) (now (fixed .entry)) m) v (j - 1) ≤ r) × (r ≤ chained m → lastBelow (inChain (patternOf (now (pattern .entry)) (now (fixed .entry)) m) v) r ≡ r) ⌝ }
+{
+    let count = indices(m) as u64;
+    if j <= count {
+        return cells[(255 + j) as usize];
+    }
+    if j == count + 1 {
+        return cells[v as usize];
+    }
+    j - 1
+}
+
+// The flags of the 56 moves from 56 c on: the words of the byte's last and of its first four bits, those after index 0 cut off.
+fn flags(pattern: &[u8], fixed: &[u8], m: u32, cells: &[u64], v: u8, c: u32) -> u64
+    requires { ⌜ WordTables (patternOf (now pattern) (now fixed) m) (now cells) ⌝ }
+    requires { ⌜ (256 + m ≤ length (now cells)) × (m ≤ 2048) × (56 * c + 8 ≤ m) ⌝ }
+    ensures { λ r. ⌜ Flags (patternOf (now (pattern .entry)) (now (fixed .entry)) m) v m (56 * c) r ⌝ }
+{
+    let at = (22 * c + 6) as usize;
+    let last = cells[at + (v % 16) as usize];
+    let first = cells[at + (v / 16) as usize];
+    let left = m - 7 - 56 * c;
+    let end = if left < 56 { 64 - left } else { 8 };
+    last & (first >> 4) & (ALL >> end)
+}
+
+// The link of the lowest flag, in the first block from c on that has one.
+fn lowest(
+    pattern: &[u8],
+    fixed: &[u8],
+    m: u32,
+    cells: &[u64],
+    v: u8,
+    k: u32,
+    c: u32,
+    left: u64,
+) -> Links
+    requires { ⌜ WordTables (patternOf (now pattern) (now fixed) m) (now cells) ⌝ }
+    requires { ⌜ (256 + m ≤ length (now cells)) × (m ≤ 2048) × (k + 7 ≤ m) ⌝ }
+    requires { ⌜ Flagging (patternOf (now pattern) (now fixed) m) v k c left ⌝ }
+    ensures { λ r. ⌜ (r .first ≡ lastShown (patternOf (now (pattern .entry)) (now (fixed .entry)) m) v k) × (0 < r .first → Flagging (patternOf (now (pattern .entry)) (now (fixed .entry)) m) v (r .first - 1) (r .block) (r .left)) ⌝ }
+{
+    let mut block = c;
+    let mut f = left;
+    while f == 0 {
+        block += 1;
+        if m < 56 * block + 8 {
+            return Links {
+                first: 0,
+                block: block,
+                left: 0,
+            };
+        }
+        f = flags(pattern, fixed, m, cells, v, block);
+    }
+    Links {
+        first: (m - 7 - 56 * block - u64::trailing_zeros(f)) as u64,
+        block: block,
+        left: f & (f - 1),
+    }
+}
+
+// The flags of the last places of a step, and the link of the lowest: those before the mark are cut off.
+fn first_flags(pattern: &[u8], fixed: &[u8], m: u32, cells: &[u64], v: u8, k: u32) -> Links
+    requires { ⌜ WordTables (patternOf (now pattern) (now fixed) m) (now cells) ⌝ }
+    requires { ⌜ (256 + m ≤ length (now cells)) × (15 ≤ m) × (m ≤ 2048) × (k + 7 ≤ m) × (m < k + 15) ⌝ }
+    ensures { λ r. ⌜ (r .first ≡ lastShown (patternOf (now (pattern .entry)) (now (fixed .entry)) m) v k) × (0 < r .first → Flagging (patternOf (now (pattern .entry)) (now (fixed .entry)) m) v (r .first - 1) (r .block) (r .left)) ⌝ }
+{
+    let f = flags(pattern, fixed, m, cells, v, 0) & (ALL << (m - 7 - k));
+    lowest(pattern, fixed, m, cells, v, k, 0, f)
+}
+
+// The links to try first for the places from index k - 1 down.
+fn first_links(pattern: &[u8], fixed: &[u8], m: u32, cells: &[u64], v: u8, k: u32) -> Links
+    requires { ⌜ SkipTables (patternOf (now pattern) (now fixed) m) (now cells) ⌝ }
+    requires { ⌜ (256 + m ≤ length (now cells)) × (15 ≤ m) × (m ≤ 2048) × (k + 7 ≤ m) × (m < k + 15) ⌝ }
+    ensures { λ r. ⌜ (r .first ≤ k) × (lastShown (patternOf (now (pattern .entry)) (now (fixed .entry)) m) v k ≤ r .first) × Walking (patternOf (now (pattern .entry)) (now (fixed .entry)) m) v (getD (now (cells .entry)) (255 + m) 0) r ⌝ }
+{
+    if cells[255 + m as usize] == 0 {
+        return Links {
+            first: first_link(pattern, fixed, m, cells, v, k),
+            block: 0,
+            left: 0,
+        };
+    }
+    first_flags(pattern, fixed, m, cells, v, k)
+}
+
+// The links to try after these.
 fn next_links(pattern: &[u8], fixed: &[u8], m: u32, cells: &[u64], v: u8, links: Links) -> Links
     requires { ⌜ SkipTables (patternOf (now pattern) (now fixed) m) (now cells) ⌝ }
-    requires { ⌜ (256 + m ≤ length (now cells)) × (15 ≤ m) × (m ≤ 2048) × (0 < links .first) × (links .first ≤ m) ⌝ }
-    requires { ⌜ Walking (patternOf (now pattern) (now fixed) m) v links ⌝ }
-    ensures { λ r. ⌜ (r .first < links .first) × (lastShown (patternOf (now (pattern .entry)) (now (fixed .entry)) m) v (links .first - 1) ≤ r .first) × Walking (patternOf (now (pattern .entry)) (now (fixed .entry)) m) v r ⌝ }
+    requires { ⌜ (256 + m ≤ length (now cells)) × (15 ≤ m) × (m ≤ 2048) × (0 < links .first) × (links .first + 7 ≤ m) ⌝ }
+    requires { ⌜ Walking (patternOf (now pattern) (now fixed) m) v (getD (now cells) (255 + m) 0) links ⌝ }
+    ensures { λ r. ⌜ (r .first < links .first) × (lastShown (patternOf (now (pattern .entry)) (now (fixed .entry)) m) v (links .first - 1) ≤ r .first) × Walking (patternOf (now (pattern .entry)) (now (fixed .entry)) m) v (getD (now (cells .entry)) (255 + m) 0) r ⌝ }
 {
-    let first = links.first;
-    let solid = links.solid;
-    let wild = links.wild;
-    let count = indices(m) as u64;
-    if count + 1 < first {
+    let at = links.first;
+    if cells[255 + m as usize] == 0 {
         return Links {
-            first: first - 1,
-            solid: solid,
-            wild: wild,
+            first: next_link(pattern, fixed, m, cells, v, at),
+            block: 0,
+            left: 0,
         };
     }
-    if count < first {
-        return links_of(solid, wild);
-    }
-    if solid < wild {
-        let c = cells[(255 + wild) as usize];
-        return links_of(solid, wild_link(pattern, fixed, m, cells, v, c % 65536));
-    }
-    links_of(cells[(255 + solid) as usize], wild)
+    lowest(
+        pattern,
+        fixed,
+        m,
+        cells,
+        v,
+        (at - 1) as u32,
+        links.block,
+        links.left,
+    )
 }
 
-// One step: the places of both chains from the mark on, rising, each compared.
+// One step: the places of the links from the mark on, rising, each compared.
 pub fn step(
     text: &[u8],
     pattern: &[u8],
@@ -272,9 +314,9 @@ pub fn step(
     }
 }
 
-// The step from a mark 8 a + 1 where no index has a wild bit, by the last byte b that all its places contain: the places of
-// b's chain, from its head on, each compared until one is not below the number of places. The mark lies as many places
-// before 8 b + 1 as indices are chained, and the place of a link j is 8 b + 1 - j.
+// The step from a mark 8 a + 1 by chains, by the last byte b that all its places contain: the places of b's chain, from its
+// head on, each compared until one is not below the number of places. The mark lies as many places before 8 b + 1 as indices
+// are chained, and the place of a link j is 8 b + 1 - j.
 fn walk(
     text: &[u8],
     pattern: &[u8],
@@ -288,7 +330,7 @@ fn walk(
     requires { ⌜ Ready Method.Skip (textIn (now text) known) (patternIn (now pattern) (now fixed) known) (now cells) ⌝ }
     requires { ⌜ HeadOf (patternIn (now pattern) (now fixed) known) (known .head) (known .mask) ⌝ }
     requires { ⌜ (chained (known .m) ≤ 8 * b .0) × (8 * b .0 + 8 ≤ known .n) × (had ≤ length (now list)) ⌝ }
-    requires { ⌜ getD (now cells) (255 + known .m) 0 ≡ 0 ⌝ }
+    requires { ⌜ ChainTables (patternIn (now pattern) (now fixed) known) (now cells) ⌝ }
     ensures { λ r. ⌜ Stepped Method.Skip (textIn (now (text .entry)) known) (patternIn (now (pattern .entry)) (now (fixed .entry)) known) (8 * b .0 + 1 - chained (known .m)) (now (list .entry)) had (r .at .0) (r .hits) (r .full) (now (list .exit)) ⌝ }
 {
     let byte = b.0;
@@ -335,7 +377,7 @@ fn chain(
     requires { ⌜ Ready Method.Skip (textIn (now text) known) (patternIn (now pattern) (now fixed) known) (now cells) ⌝ }
     requires { ⌜ HeadOf (patternIn (now pattern) (now fixed) known) (known .head) (known .mask) ⌝ }
     requires { ⌜ (chained (known .m) ≤ 8 * b .0) × (8 * b .0 + 8 ≤ known .n) × (had ≤ length (now list)) ⌝ }
-    requires { ⌜ getD (now cells) (255 + known .m) 0 ≡ 0 ⌝ }
+    requires { ⌜ ChainTables (patternIn (now pattern) (now fixed) known) (now cells) ⌝ }
     ensures { λ r. ⌜ Stepped Method.Skip (textIn (now (text .entry)) known) (patternIn (now (pattern .entry)) (now (fixed .entry)) known) (8 * b .0 + 1 - chained (known .m)) (now (list .entry)) had (r .at .0) (r .hits) (r .full) (now (list .exit)) ⌝ }
 {
     let here = b.0;
@@ -349,10 +391,91 @@ fn chain(
     walk(text, pattern, fixed, known, cells, b, list, had)
 }
 
+// The same by words.
+fn sweep(
+    text: &[u8],
+    pattern: &[u8],
+    fixed: &[u8],
+    known: Known,
+    cells: &[u64],
+    b: ByteNo,
+    list: &mut [u32],
+    had: usize,
+) -> Found
+    requires { ⌜ Ready Method.Skip (textIn (now text) known) (patternIn (now pattern) (now fixed) known) (now cells) ⌝ }
+    requires { ⌜ HeadOf (patternIn (now pattern) (now fixed) known) (known .head) (known .mask) ⌝ }
+    requires { ⌜ (chained (known .m) ≤ 8 * b .0) × (8 * b .0 + 8 ≤ known .n) × (had ≤ length (now list)) ⌝ }
+    requires { ⌜ WordTables (patternIn (now pattern) (now fixed) known) (now cells) ⌝ }
+    ensures { λ r. ⌜ Stepped Method.Skip (textIn (now (text .entry)) known) (patternIn (now (pattern .entry)) (now (fixed .entry)) known) (8 * b .0 + 1 - chained (known .m)) (now (list .entry)) had (r .at .0) (r .hits) (r .full) (now (list .exit)) ⌝ }
+{
+    let byte = b.0;
+    let v = text[byte];
+    let m = known.m;
+    let top = b.place().0 as usize + 1;
+    let end = known.n - m + 1;
+    let mut links = first_flags(pattern, fixed, m, cells, v, indices(m));
+    let mut written = had;
+    while links.first != 0 {
+        let p = (top - links.first as usize) as u32;
+        if end <= p {
+            break;
+        }
+        if compare::same(text, pattern, fixed, known, Place(p)) {
+            if list.len() <= written {
+                return Found {
+                    at: Place(p),
+                    hits: written,
+                    full: true,
+                };
+            }
+            list[written] = p;
+            written += 1;
+        }
+        links = lowest(
+            pattern,
+            fixed,
+            m,
+            cells,
+            v,
+            (links.first - 1) as u32,
+            links.block,
+            links.left,
+        );
+    }
+    Found {
+        at: Place(matcher::cut(top as u32, end)),
+        hits: written,
+        full: false,
+    }
+}
+
+// The step from a mark 8 a + 1, by tables of either kind.
+fn decide(
+    text: &[u8],
+    pattern: &[u8],
+    fixed: &[u8],
+    known: Known,
+    cells: &[u64],
+    kind: u64,
+    b: ByteNo,
+    list: &mut [u32],
+    had: usize,
+) -> Found
+    requires { ⌜ Ready Method.Skip (textIn (now text) known) (patternIn (now pattern) (now fixed) known) (now cells) ⌝ }
+    requires { ⌜ HeadOf (patternIn (now pattern) (now fixed) known) (known .head) (known .mask) ⌝ }
+    requires { ⌜ (chained (known .m) ≤ 8 * b .0) × (8 * b .0 + 8 ≤ known .n) × (had ≤ length (now list)) ⌝ }
+    requires { ⌜ kind ≡ getD (now cells) (255 + known .m) 0 ⌝ }
+    ensures { λ r. ⌜ Stepped Method.Skip (textIn (now (text .entry)) known) (patternIn (now (pattern .entry)) (now (fixed .entry)) known) (8 * b .0 + 1 - chained (known .m)) (now (list .entry)) had (r .at .0) (r .hits) (r .full) (now (list .exit)) ⌝ }
+{
+    if kind == 0 {
+        return chain(text, pattern, fixed, known, cells, b, list, had);
+    }
+    sweep(text, pattern, fixed, known, cells, b, list, had)
+}
+
 // Many steps, each from a mark 8 a + 1: its byte is b, and that of the next mark, 8 b + 1, lies as many bits on as indices
 // are chained. The mark may pass the number of places, and is cut at the end. From any other mark it makes no step: only a
-// call's first mark is one. Nor does it where an index has a wild bit: its steps are for the byte's chain alone, and `step` is
-// for both.
+// call's first mark is one.
 pub fn advance(
     text: &[u8],
     pattern: &[u8],
@@ -371,17 +494,9 @@ pub fn advance(
 {
     let end = known.n - known.m + 1;
     let stride = Place(indices(known.m)).byte().0;
-    let wild = cells[255 + known.m as usize];
+    let kind = cells[255 + known.m as usize];
     let mut at = s.0;
     if s.offset() != 1 {
-        return Advance {
-            at: s,
-            steps: 0,
-            hits: had,
-            full: false,
-        };
-    }
-    if wild != 0 {
         return Advance {
             at: s,
             steps: 0,
@@ -393,7 +508,7 @@ pub fn advance(
     let mut steps = 0u32;
     let mut hits = had;
     while at < end && steps < budget {
-        let found = chain(text, pattern, fixed, known, cells, b, list, hits);
+        let found = decide(text, pattern, fixed, known, cells, kind, b, list, hits);
         hits = found.hits;
         if found.full {
             let stop = found.at;

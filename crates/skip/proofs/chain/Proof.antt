@@ -14,7 +14,8 @@ use Rattle.matcher.specs.Tables.{lastBelow, inChain, chained}
 use Rattle.matcher.specs.Progress.{textIn, patternIn}
 use Rattle.rules.proofs.Occurrence.{places-some}
 use Rattle.matcher.proofs.Writing.{writing-none}
-use Rattle.skip.proofs.SkipChain.{chained-fits, mark-byte, byte-is, none-wild, walk-start, walk-end}
+use Rattle.skip.proofs.SkipChain.{chained-fits, mark-byte, byte-is, walk-start, walk-end}
+use Rattle.skip.proofs.SkipShows.{shown-chain}
 use Rattle.skip.proofs.SkipSizes.{ByteSizes, byte-sizes, end-fits, long-enough}
 use Rattle.skip.proofs.SkipStep.{skip-whole}
 use Rattle.skip.proofs.chain.Statement.{statement}
@@ -61,8 +62,8 @@ returns c =
     let last : lastByte w p ≡ b = mark-byte b m (s .pre .1 .1 .0 .0) long in
     let byte = c .before .before .before .before .before .shared-slice-known5 .given b .fits in
     let head : getD (now (a .cells)) (getD (now (a .text)) b 0) 0 ≡ lastBelow (inChain w (bitsAt (now (a .text)) (8 * b) 8)) (chained m)
-    = s .pre .0 .tables .head-is _ byte ∙ ap (λ (v : ℕ). lastBelow (inChain w v) (chained m)) (byte-is (now (a .text)) b byte) in
-    let shown = none-wild w (now (a .cells)) (s .pre .0 .tables) (bitsAt (now (a .text)) (8 * b) 8) (chained m) (bits-lt (now (a .text)) (8 * b) 8) (s .pre .1 .1 .1) (omega arith) in
+    = s .pre .1 .1 .1 .head-is _ byte ∙ ap (λ (v : ℕ). lastBelow (inChain w v) (chained m)) (byte-is (now (a .text)) b byte) in
+    let shown = shown-chain w (s .pre .1 .1 .1 .all-fixed) (bitsAt (now (a .text)) (8 * b) 8) (bits-lt (now (a .text)) (8 * b) 8) (chained m) (chained-fits m long) in
     let span : 8 * b + 1 - p ≡ chained m = omega arith in
     let fits : 8 * b + 8 ≤ p + m = omega (arith, chained-fits m long) in
     let none = walk-start t w b p 0 (omega arith) (omega arith) (rw span (omega (arith, head, shown, c .before .before .before .if1 .taken))) in

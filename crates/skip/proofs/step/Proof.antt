@@ -10,7 +10,7 @@ use native.Mathlib.Omega.{arith}
 use denote.Ref.{now}
 use borrow.Author.Tests.{ltb-false}
 use lib.Dec.{lit<}
-use lib.ListN.{length}
+use lib.ListN.{length, getD}
 use Rattle.bits.specs.Packed.{Packed}
 use Rattle.rules.specs.Pattern.{Pattern}
 use Rattle.rules.specs.Occurrence.{occurs, occurrences}
@@ -22,7 +22,7 @@ use Rattle.matcher.proofs.Writing.{writing-none, writing-length}
 use Rattle.rules.proofs.Skip.{reaches-byte, contains-byte}
 use Rattle.skip.proofs.SkipChain.{byte-is, walk-start, walk-by, walk-found, walk-end}
 use Rattle.skip.proofs.SkipSizes.{Sizes, sizes, byte-asked, end-fits}
-use Rattle.skip.proofs.SkipStep.{span-fits, below-top, place-fits, place-small, link-inside, link-outside, written-more, skip-full, skip-whole}
+use Rattle.skip.proofs.SkipStep.{span-fits, span-near, below-top, place-fits, place-small, link-inside, link-outside, written-more, skip-full, skip-whole}
 use Rattle.skip.proofs.step.Statement.{statement}
 use Rattle.skip.proofs.step.Tie as tie
 
@@ -30,7 +30,7 @@ abbrev Inv-loop : tie.InvT-loop
 Inv-loop text pattern fixed known cells list₀ had m at top stop low byte v links₀ hits₀ list links hits =
     let b = (at + known .m) / 8 - 1 in
     (links .first + at ≤ 8 * b + 1)
-    × Walking (patternIn pattern fixed known) v links
+    × Walking (patternIn pattern fixed known) v (getD cells (255 + known .m) 0) links
     × Writing list₀ had (occurrences (textIn text known) (patternIn pattern fixed known) at (8 * b + 1 - links .first)) list hits
 
 abbrev μ-loop : tie.MeasureT-loop
@@ -45,7 +45,7 @@ wide-fits x h = omega arith
 less-fits : (x y : ℕ) → x < 2 ^ 32 → x - y < 2 ^ 64
 less-fits x y h = omega arith
 
-index-fits : (p m x j : ℕ) → x - p + 7 ≤ m → j + p ≤ x → j ≤ m
+index-fits : (p m x j : ℕ) → x - p + 7 ≤ m → j + p ≤ x → j + 7 ≤ m
 index-fits p m x j h g = omega arith
 
 up-to : (p j x : ℕ) → j ≤ x - p → p ≤ x → j + p ≤ x
@@ -134,10 +134,7 @@ first-links-requires : tie.Need-first-links-requires Inv-loop μ-loop
 first-links-requires c κs =
     let s = c .before .before .before .before .before .before .before .before .before .before in
     let m = s .args .known .m in
-    (s .pre .0 .tables, (s .pre .0 .room, long s, s .pre .0 .pattern .few-bits, rw (top-is (c .before .before .before)) (part-fits (8 * last s + 1 - s .args .s .0) m (span-fits (s .args .s .0) m (long s)))))
-  where
-    part-fits : (x m : ℕ) → x + 7 ≤ m → x ≤ m
-    part-fits x m h = omega arith
+    (s .pre .0 .tables, (s .pre .0 .room, long s, s .pre .0 .pattern .few-bits, rw (top-is (c .before .before .before)) (span-fits (s .args .s .0) m (long s)), rw (top-is (c .before .before .before)) (span-near (s .args .s .0) m (long s))))
 
 loop-holds : tie.Need-loop-holds Inv-loop μ-loop
 loop-holds c =

@@ -21,7 +21,8 @@ use Rattle.rules.proofs.Occurrence.{places-some}
 use Rattle.matcher.proofs.Compared.{compared-place}
 use Rattle.matcher.proofs.Writing.{writing-none, writing-length}
 use Rattle.skip.proofs.SkipBelow.{below-is}
-use Rattle.skip.proofs.SkipChain.{chained-fits, mark-byte, byteOf, byte-is, Headed, headed-within, headed-passes, headed-more, link-less, solid-link, none-wild, walk-start, walk-by, walk-found, walk-end}
+use Rattle.skip.proofs.SkipShows.{shown-chain}
+use Rattle.skip.proofs.SkipChain.{chained-fits, mark-byte, byteOf, byte-is, Headed, headed-within, headed-passes, headed-more, link-less, chain-link, walk-start, walk-by, walk-found, walk-end}
 use Rattle.skip.proofs.SkipSizes.{ByteSizes, byte-sizes, end-fits, long-enough}
 use Rattle.skip.proofs.SkipStep.{below-top, place-fits, below-end, from-end, written-more, skip-full, skip-whole}
 use Rattle.skip.proofs.walk.Statement.{statement}
@@ -60,16 +61,17 @@ head c =
     let s = c .before .before .before .before .before .before .before .before .before .before in
     let a = s .args in
     let byte = c .before .shared-slice-known5 .given (a .b .0) .fits in
-    s .pre .0 .tables .head-is _ byte ∙ ap (λ (v : ℕ). lastBelow (inChain (patternIn (now (a .pattern)) (now (a .fixed)) (a .known)) v) (chained (a .known .m))) (byte-is (now (a .text)) (a .b .0) byte)
+    s .pre .1 .1 .1 .head-is _ byte ∙ ap (λ (v : ℕ). lastBelow (inChain (patternIn (now (a .pattern)) (now (a .fixed)) (a .known)) v) (chained (a .known .m))) (byte-is (now (a .text)) (a .b .0) byte)
 
--- no index has a wild bit, so the chain is all that shows the byte
+-- every bit is fixed, so the chain is all that shows the byte
 shown : (s : tie.Start Inv-loop μ-loop) (k : ℕ) → k ≤ chained (s .args .known .m)
     → let a = s .args in
     let w = patternIn (now (a .pattern)) (now (a .fixed)) (a .known) in
     lastShown w (bitsAt (now (a .text)) (8 * a .b .0) 8) k ≡ lastBelow (inChain w (bitsAt (now (a .text)) (8 * a .b .0) 8)) k
 shown s k few =
     let a = s .args in
-    none-wild (patternIn (now (a .pattern)) (now (a .fixed)) (a .known)) (now (a .cells)) (s .pre .0 .tables) (bitsAt (now (a .text)) (8 * a .b .0) 8) k (bits-lt (now (a .text)) (8 * a .b .0) 8) (s .pre .1 .1 .1) few
+    let long = chained-fits (a .known .m) (long-enough _ _ _ (s .pre .0)) in
+    shown-chain (patternIn (now (a .pattern)) (now (a .fixed)) (a .known)) (s .pre .1 .1 .1 .all-fixed) (bitsAt (now (a .text)) (8 * a .b .0) 8) (bits-lt (now (a .text)) (8 * a .b .0) 8) k (omega arith)
 
 -- the link's place is not before the mark
 from-mark : (c : tie.At-loop Inv-loop μ-loop)
@@ -212,7 +214,7 @@ after c =
     let s = c .before .before .before .before .before .before .before .before .before .before .before .before .before .before .before .before in
     let a = s .args in
     let more = some (c .before .before .before .before .loop-test .taken) in
-    solid-link (patternIn (now (a .pattern)) (now (a .fixed)) (a .known)) (now (a .cells)) (s .pre .0 .tables) (l .next) more (from-mark (c .before .before .before .before .before) .0)
+    chain-link (patternIn (now (a .pattern)) (now (a .fixed)) (a .known)) (now (a .cells)) (s .pre .1 .1 .1) (l .next) more (from-mark (c .before .before .before .before .before) .0)
     (bitsAt (now (a .text)) (8 * a .b .0) 8) (headed-passes _ _ _ (l .next) (l .inv .0) more)
 
 loop-less : tie.Need-loop-less Inv-loop μ-loop
