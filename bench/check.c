@@ -130,10 +130,11 @@ static const struct paper papers[] = {
     {"11111", "111", 9, {{3, 3, 3}, {-1, 0, 0}, {-1, 0, 0}, {1, 3, 3}, {3, 3, 3}}},
     // Tail moves by 1 at first, as the window 1001 ends in 001: a beginning of the pattern that does not end it.
     {"10010011", "0011", 9, {{5, 5, 1}, {-1, 0, 0}, {-1, 0, 0}, {1, 5, 1}, {3, 5, 1}}},
-    // Wild bits. Hash moves on from 17 by the value just read, which is not the pattern's own.
+    // Wild bits.
     {R1, "010???0100", 9, {{27, 27, 2}, {9, 27, 2}, {-1, 0, 0}, {1, 27, 2}, {8, 27, 2}}},
+    // Hash moves on from 17 by the value just read, which is not the pattern's own.
     {R1, "0100????00", 9, {{27, 27, 3}, {7, 27, 3}, {-1, 0, 0}, {1, 27, 3}, {6, 27, 3}}},
-    {R2, "1100????0010110010110", 9, {{13, 13, 3}, {-1, 0, 0}, {2, 13, 3}, {1, 13, 3}, {-1, 0, 0}}},
+    {R2, "?10?10?10?10?10?10?10", 9, {{13, 13, 5}, {5, 13, 5}, {2, 13, 5}, {1, 13, 5}, {5, 13, 5}}},
     // One byte that two indices show through one wild bit, and a wide move that a wild bit decides.
     {"010000001000000100000010", "1000000?00000010", 9, {{9, 9, 2}, {-1, 0, 0}, {1, 9, 2}, {1, 9, 2}, {-1, 0, 0}}},
     {ZEROS ZEROS ZEROS ZEROS ZEROS, "?1", 9, {{199, 199, 0}, {-1, 0, 0}, {-1, 0, 0}, {4, 199, 0}, {199, 199, 0}}},

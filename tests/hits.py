@@ -168,6 +168,8 @@ def named():
     yield "empty pattern", ("\n" + r + "\n").encode()
     yield "empty text", (v + "\n\n").encode()
     yield "other digit", whole.replace(b"1", b"2", 1)
+    yield "a wild bit in the pattern", pair("0100????00", r)
+    yield "a wild bit in the text", pair(v, r[:11] + "?" + r[12:])
     yield "letter", whole.replace(b"0", b"o", 1)
     yield "slash, the byte before 0", whole.replace(b"0", b"/", 1)
     yield "byte 176, a 0 with its top bit set", whole.replace(b"0", b"\xb0", 1)

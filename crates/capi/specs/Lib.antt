@@ -1,8 +1,8 @@
 -- What each call for C and Rust promises, in reading order: what a call tells, then one definition for each call, with what
--- the scratch and the pattern's second run are to a search, the claim about the list file's writer and reader one after the other, the claim about every
--- list of search calls, when such a list goes on, and the claim about the key that a finished search gives. The rules
--- themselves are those of the crates below; only the numbers 100 and 101 are new here. `Inner` is what the private functions
--- promise.
+-- the scratch and the pattern's second run are to it, the claim about the list file's writer and reader one after the other,
+-- the claim about every list of search calls, when such a list goes on, and the claim about the key that a finished search
+-- gives. The rules themselves are those of the crates below; only the numbers 100 and 101 are new here. `Inner` is what the
+-- private functions promise.
 pub mod Told
 pub mod Scan
 pub mod Scratch

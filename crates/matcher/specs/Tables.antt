@@ -54,17 +54,17 @@ pub record ChainTables (w : Pattern) (cells : List ℕ) : Type 0 where
   pub head-is : (B : ℕ) → B < 256 → getD cells B 0 ≡ lastBelow (inChain w B) (chained (w .count))
   pub link-is : (j : ℕ) → j < chained (w .count) → getD cells (256 + j) 0 ≡ lastBelow (inChain w (bitsAt (w .bytes) j 8)) j
 
--- skip, for any pattern: in the cells from 22 k + 6 on the words of four bits for the moves from 56 k on. Index m − 8 − d shows a byte
+-- skip, for any pattern: in the cells from 22 k + 6 on the words of four bits for the moves from 57 k on. Index m − 8 − d shows a byte
 -- just if the move d brings its eight bits under the pattern's last ones.
 pub record WordTables (w : Pattern) (cells : List ℕ) : Type 0 where
-  pub words-are : (k : ℕ) → 56 * k + 8 ≤ w .count → Words w (56 * k) 4 (22 * k + 6) cells
+  pub words-are : (k : ℕ) → 57 * k + 8 ≤ w .count → Words w (57 * k) 4 (22 * k + 6) cells
 
 -- skip has one of the two, told by cell 255 + m, which neither uses
 pub record SkipTables (w : Pattern) (cells : List ℕ) : Type 0 where
   pub chains : getD cells (255 + w .count) 0 ≡ 0 → ChainTables w cells
   pub words : (getD cells (255 + w .count) 0 ≡ 0 → ⊥) → WordTables w cells
 
--- the window bit q, being c, leaves flag i standing: q − i is no index of the pattern, or its bit there is c
+-- the window bit q, being c, leaves flag i standing: q − i is no index of the pattern, or c agrees with its bit there
 unfoldable pub passes : Pattern → ℕ → ℕ → ℕ → Bool
 passes w c q i = implies (leb i q && ltb (q - i) (w .count)) (agrees w (q - i) c)
 

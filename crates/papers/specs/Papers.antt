@@ -1,6 +1,6 @@
--- The starred rows of "Papers from the course", in document 01's order, and after them the rows of the changes (the
--- tail method, a sitting, the cut step, the scratch, wild bits), as one claim about the definitions. The texts R1 and R2 and the patterns V1
--- and V2 are those of rules/specs/Papers.antt.
+-- The starred rows of "Papers from the course", in document 01's order, and after them the rows of the changes (the tail method, a
+-- sitting, the cut step, the scratch, wild bits), as one claim about the definitions. The texts and patterns are those of
+-- rules/specs/Papers.antt.
 use mathlib.Core.Path.{_≡_}
 use mathlib.Core.List.{[], _∷_}
 use mathlib.Core.Bool.{true, false}
@@ -105,28 +105,32 @@ pub record Papers : Type 0 where
   pub cells-wide-2048 : scratchCells Wide 2048 ≡ 4222
   pub cells-tail-1 : scratchCells Tail 1 ≡ 2
   pub cells-tail-64 : scratchCells Tail 64 ≡ 2
-  -- Wild bits: V1 in R1 with a field of three bits wild occurs at 22 too. Skip takes no pattern of ten bits; V2 with four bits
-  -- wild in R2 has a row for it
-  pub wild-all : allOccurrences R1 V1Wild ≡ 11 ∷ 22 ∷ []
-  pub wild-plain : wholeRun Plain R1 V1Wild 1000 ≡ record { steps = 27; written = 11 ∷ 22 ∷ []; mark = 27; ending = done }
-  pub wild-hash-marks : marks Hash R1 V1Wild 9 ≡ 0 ∷ 1 ∷ 4 ∷ 7 ∷ 11 ∷ 17 ∷ 20 ∷ 22 ∷ 26 ∷ 27 ∷ []
-  pub wild-hash : wholeRun Hash R1 V1Wild 1000 ≡ record { steps = 9; written = 11 ∷ 22 ∷ []; mark = 27; ending = done }
+  -- Wild bits: V1 in R1 by plain and wide, whose runs are in search/specs/Examples.antt; then V1 with a field of four bits wild,
+  -- which occurs at 17 and 22 too. Skip takes neither, and its refusals are there as well. V2 with every third bit wild is its row:
+  -- that occurs in R2 at 3 and 9 too
+  pub plain-marks : marks Plain R1 V1 3 ≡ 0 ∷ 1 ∷ 2 ∷ 3 ∷ []
+  pub wide-marks-1 : marks Wide R1 V1 1 ≡ 0 ∷ 27 ∷ []
+  pub wild-all : allOccurrences R1 V1Wild ≡ 11 ∷ 17 ∷ 22 ∷ []
+  pub wild-plain-marks : marks Plain R1 V1Wild 3 ≡ 0 ∷ 1 ∷ 2 ∷ 3 ∷ []
+  pub wild-plain : wholeRun Plain R1 V1Wild 1000 ≡ record { steps = 27; written = 11 ∷ 17 ∷ 22 ∷ []; mark = 27; ending = done }
+  pub wild-hash-marks : marks Hash R1 V1Wild 7 ≡ 0 ∷ 1 ∷ 4 ∷ 7 ∷ 11 ∷ 17 ∷ 22 ∷ 27 ∷ []
+  pub wild-hash : wholeRun Hash R1 V1Wild 1000 ≡ record { steps = 7; written = 11 ∷ 17 ∷ 22 ∷ []; mark = 27; ending = done }
   pub wild-wide-marks : marks Wide R1 V1Wild 1 ≡ 0 ∷ 27 ∷ []
-  pub wild-wide : wholeRun Wide R1 V1Wild 1000 ≡ record { steps = 1; written = 11 ∷ 22 ∷ []; mark = 27; ending = done }
-  pub wild-tail-marks : marks Tail R1 V1Wild 8 ≡ 0 ∷ 4 ∷ 7 ∷ 11 ∷ 17 ∷ 20 ∷ 22 ∷ 26 ∷ 27 ∷ []
-  pub wild-tail : wholeRun Tail R1 V1Wild 1000 ≡ record { steps = 8; written = 11 ∷ 22 ∷ []; mark = 27; ending = done }
+  pub wild-wide : wholeRun Wide R1 V1Wild 1000 ≡ record { steps = 1; written = 11 ∷ 17 ∷ 22 ∷ []; mark = 27; ending = done }
+  pub wild-tail-marks : marks Tail R1 V1Wild 6 ≡ 0 ∷ 4 ∷ 7 ∷ 11 ∷ 17 ∷ 22 ∷ 27 ∷ []
+  pub wild-tail : wholeRun Tail R1 V1Wild 1000 ≡ record { steps = 6; written = 11 ∷ 17 ∷ 22 ∷ []; mark = 27; ending = done }
   pub wild-skip-marks : marks Skip R2 V2Wild 2 ≡ 0 ∷ 9 ∷ 13 ∷ []
-  pub wild-skip : wholeRun Skip R2 V2Wild 1000 ≡ record { steps = 2; written = 0 ∷ 6 ∷ 12 ∷ []; mark = 13; ending = done }
+  pub wild-skip : wholeRun Skip R2 V2Wild 1000 ≡ record { steps = 2; written = 0 ∷ 3 ∷ 6 ∷ 9 ∷ 12 ∷ []; mark = 13; ending = done }
   -- what the first run has at wild bits never matters, nor what either has from bit m on
   pub wild-ones : wholeRun Hash R1 V1WildOnes 1000 ≡ wholeRun Hash R1 V1Wild 1000
-  -- V1's own last eight bits are 00110100. 00100100 agrees with them too, since they differ at a wild bit: H is 0 for both, and
-  -- the move after it goes by the value just read, 3 and not 6. From mark 17 it leads to 20
+  -- V1's own last eight bits are 00110100. 00101000 agrees with the wild pattern's last eight too: H is 0 for both, and the move
+  -- after it goes by the value just read, 5 and not 6. From mark 17 it leads to 22; a move by 6 would pass the occurrence there
   pub h-own : hashOf V1Wild 0b00110100 ≡ 0
-  pub h-read : hashOf V1Wild 0b00100100 ≡ 0
+  pub h-read : hashOf V1Wild 0b00101000 ≡ 0
   pub again-own : hashAgain V1Wild 0b00110100 ≡ 6
-  pub again-read : hashAgain V1Wild 0b00100100 ≡ 3
-  pub again-step : run Hash R1 V1Wild 1 17 1000 ≡ record { steps = 1; written = []; mark = 20; ending = spent }
-  -- A wide move that a wild bit decides: ?1 has no 0, and the greatest index that agrees with one is the wild bit's
+  pub again-read : hashAgain V1Wild 0b00101000 ≡ 5
+  pub again-step : run Hash R1 V1Wild 1 17 1000 ≡ record { steps = 1; written = 17 ∷ []; mark = 22; ending = spent }
+  -- A wide move that a wild bit decides: ?1 has no 0, and the greatest index that agrees with a 0 is the wild bit's
   pub wide-wild-index : lastIndex wildOne 0 ≡ some 0
   pub wide-wild-marks : marks Wide zeros200 wildOne 4 ≡ 0 ∷ 65 ∷ 130 ∷ 195 ∷ 199 ∷ []
   -- A byte that two indices show through one wild bit: the places 1 and 8 of one step, and no place between them

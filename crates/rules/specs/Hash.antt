@@ -8,7 +8,8 @@ use Rattle.rules.specs.Ranges.{implies, every, keep, least}
 use Rattle.rules.specs.Pattern.{Pattern, agrees}
 use Rattle.rules.specs.Occurrence.{matches}
 
--- the condition on d: "w[m−8−d+j] = B[j] for each j in 0..7 with m−8−d+j ≥ 0", B[0] being the left bit of B
+-- the condition on d: "w[m−8−d+j] = B[j] for each j in 0..7 with m−8−d+j ≥ 0", B[0] being the left bit of B; a wild bit agrees with
+-- both values (document 02)
 unfoldable pub meets : Pattern → ℕ → ℕ → Bool
 meets w B d = every 8 (λ j. implies (leb (8 + d) (w .count + j)) (agrees w (w .count + j - (8 + d)) (bitOf 8 B j)))
 
@@ -16,7 +17,7 @@ meets w B d = every 8 (λ j. implies (leb (8 + d) (w .count + j)) (agrees w (w .
 unfoldable pub hashOf : Pattern → ℕ → ℕ
 hashOf w B = least (meets w B) 0 (1 + w .count)
 
--- "G is the least d in 1..m meeting the same condition for B"
+-- G: "After H(B) = 0, hash moves by the least d in 1..m that meets the condition for the B just read" (document 02)
 unfoldable pub hashAgain : Pattern → ℕ → ℕ
 hashAgain w B = least (meets w B) 1 (w .count)
 

@@ -50,17 +50,17 @@ tailText = record { bytes = 0b10010011 ∷ []; count = 8 }
 abbrev pub tailPattern : Pattern
 tailPattern = fixedPattern (0b00110000 ∷ []) 4
 
--- V1 with the field of its bits 3 to 5 wild: 010???0100
+-- V1 with the field of its bits 4 to 7 wild: 0100????00
 abbrev pub V1Wild : Pattern
-V1Wild = record { bytes = V1 .bytes; fixed = 0b11100011 ∷ 0b11000000 ∷ []; count = 10 }
+V1Wild = record { bytes = V1 .bytes; fixed = 0b11110000 ∷ 0b11000000 ∷ []; count = 10 }
 
 -- the same with ones in place of its own bits at the wild ones, and in both runs ones from bit 10 on
 abbrev pub V1WildOnes : Pattern
-V1WildOnes = record { bytes = 0b01011101 ∷ 0b00111111 ∷ []; fixed = 0b11100011 ∷ 0b11111111 ∷ []; count = 10 }
+V1WildOnes = record { bytes = 0b01001111 ∷ 0b00111111 ∷ []; fixed = 0b11110000 ∷ 0b11111111 ∷ []; count = 10 }
 
--- V2 with four bits wild: 1100????0010110010110
+-- V2 with every third bit wild: ?10?10?10?10?10?10?10
 abbrev pub V2Wild : Pattern
-V2Wild = record { bytes = V2 .bytes; fixed = 0b11110000 ∷ 0b11111111 ∷ 0b11111000 ∷ []; count = 21 }
+V2Wild = record { bytes = V2 .bytes; fixed = 0b01101101 ∷ 0b10110110 ∷ 0b11011000 ∷ []; count = 21 }
 
 -- three wild bits
 abbrev pub wild3 : Pattern

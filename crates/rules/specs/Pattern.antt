@@ -18,6 +18,6 @@ unfoldable pub isFixed : Pattern → ℕ → Bool
 isFixed w j = eqb (bitAt (w .fixed) j) 1
 
 -- "w[j] is its bit j": the bit b equals w[j], or w[j] is wild, for "wild bits agree with both values". Whatever compares a bit of
--- the text with the pattern goes through this.
+-- the text with the pattern goes through this; plain's rows compare by bytes, and `rows-match` says that they do the same.
 unfoldable pub agrees : Pattern → ℕ → ℕ → Bool
 agrees w j b = implies (isFixed w j) (eqb b (bitAt (w .bytes) j))

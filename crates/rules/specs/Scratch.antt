@@ -7,7 +7,7 @@ use Rattle.rules.specs.declared.Method.{Method}
 use Rattle.rules.specs.declared.Method.the-variants.{Plain, Hash, Skip, Wide, Tail}
 
 -- for a pattern of m bits: "Hash should run in 256 cells, skip in 256 + m, wide in 2 × (63 + m), plain in
--- 16 × ceil((m+7)/8) and tail in 2"; and with wild bits hash's "scratch grows to 512 cells"
+-- 16 × ceil((m+7)/8) and tail in 2"; since there are wild bits hash's "scratch grows to 512 cells", for every pattern
 abbrev pub scratchCells : Method → ℕ → ℕ
 scratchCells Plain m = 16 * bytesFor (m + 7)
 scratchCells Hash m = 512

@@ -12,7 +12,7 @@ use Rattle.rules.specs.Occurrence.{places, matches}
 abbrev pub lastByte : Pattern → ℕ → ℕ
 lastByte w s = (s + w .count) / 8 - 1
 
--- "w from index 8b − a on shows byte b"
+-- "w from index 8b − a on shows byte b": the fixed bits there do (document 02)
 unfoldable pub shows : Packed → Pattern → ℕ → ℕ → Bool
 shows t w b a = every 8 (λ j. agrees w (8 * b - a + j) (bitAt (t .bytes) (8 * b + j)))
 

@@ -10,7 +10,7 @@ use Rattle.rules.specs.Pattern.{Pattern, agrees}
 use Rattle.rules.specs.Occurrence.{matches}
 use Rattle.rules.specs.Wide.{beyond}
 
--- "the word's first r bits equal the window's last r bits, t[s+m−r] to t[s+m−1]"
+-- "the word's first r bits equal the window's last r bits, t[s+m−r] to t[s+m−1]": the fixed ones do (document 02)
 unfoldable pub prefixEnds : Packed → Pattern → ℕ → ℕ → Bool
 prefixEnds t w s r = every r (λ j. agrees w j (bitAt (t .bytes) (s + w .count - r + j)))
 

@@ -17,7 +17,7 @@ window w = 63 + w .count
 unfoldable pub counts : Packed → Pattern → ℕ → ℕ → ℕ → Bool
 counts t w s i q = ltb (s + q) (t .count) && (leb i q && ltb (q - i) (w .count))
 
--- flag i stands: it falls "when, for some q" that counts, "t[s+q] differs from w[q−i]"
+-- flag i stands: it falls "when, for some q" that counts, "t[s+q] differs from w[q−i]", at a fixed bit of w (document 02)
 unfoldable pub stands : Packed → Pattern → ℕ → ℕ → Bool
 stands t w s i = every (window w) (λ q. implies (counts t w s i q) (agrees w (q - i) (bitAt (t .bytes) (s + q))))
 
@@ -29,7 +29,7 @@ flagged t w s a = ltb a (places t w) && stands t w s (a - s)
 unfoldable pub wideFinds : Packed → Pattern → ℕ → List ℕ
 wideFinds t w s = among (flagged t w s) s 64
 
--- "k the greatest index with w[k] = c", if there is one
+-- "k is the greatest index whose bit is wild or equals c" (document 02), if there is one
 unfoldable pub lastIndex : Pattern → ℕ → Option ℕ
 lastIndex w c = greatest (λ k. agrees w k c) (w .count)
 

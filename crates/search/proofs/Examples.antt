@@ -66,6 +66,7 @@ examples =
       h-4-first = refl;
       h-17-first = refl;
       wild-line = refl;
+      wild-skip = refl;
       from-6 = refl;
       long-text = long-text;
       long-pattern = refl;

@@ -11,6 +11,7 @@ use Rattle.bits.specs.Packed.{bytesFor}
 use Rattle.rules.specs.declared.Method.{Method}
 use Rattle.rules.specs.declared.Method.the-variants.{Plain, Hash, Skip, Wide, Tail}
 use Rattle.rules.specs.Pattern.{Pattern}
+use Rattle.rules.specs.Wild.{AllFixed}
 use Rattle.rules.specs.Scratch.{scratchCells}
 use Rattle.rules.specs.Machine.{Run}
 use Rattle.rules.proofs.Before.{as-before}
@@ -18,7 +19,7 @@ use Rattle.search.specs.declared.Outcome.{Outcome}
 use Rattle.search.specs.declared.Outcome.the-variants.{Accepted, Refused}
 use Rattle.search.specs.Verdict.{Request, textTooLong, textBytesMissing, patternLength, patternBytesMissing, patternUnfit, markBeyond, accepted, rows, judge, machine, verdict, hashVerdict, Searched}
 use Rattle.search.specs.Scratch.{SameAnswers}
-use Rattle.search.specs.Wild.{cellsBefore, verdictBefore, EveryBitFixed, withPattern, BothThere}
+use Rattle.search.specs.Wild.{cellsBefore, verdictBefore, hashVerdictBefore, EveryBitFixed, withPattern, BothThere}
 use Rattle.search.proofs.Verdict.{judge-accepted}
 use Rattle.search.proofs.Answers.{unique}
 use Rattle.search.proofs.Padding.{judge-same, SamePattern, verdict-alike, hash-verdict-alike}
@@ -48,6 +49,14 @@ answers-as-before q e =
     ∷ [])
     _ _ (λ f.
     as-before (q .text) (q .pattern) (e .all-fixed) .run-is (q .method) (f .1 .1 .1 .1 .0) (q .budget) (q .mark) (length (q .list))))
+
+-- no text plays a part in H(B), so any will do
+pub hash-as-before : (w : Pattern) → bytesFor (w .count) ≤ length (w .fixed) → AllFixed w → (B : ℕ) → hashVerdict w B ≡ hashVerdictBefore w B
+unfolding hashVerdict hashVerdictBefore judge
+hash-as-before w there f B =
+    rw (le-ltb _ _ there)
+    (judge-same (patternLength (w .count) ∷ patternBytesMissing w ∷ patternUnfit Hash (w .count) ∷ [])
+    _ _ (λ _. as-before (record { bytes = []; count = 0 }) w f .hash-of-is B))
 
 module _ (w v : Pattern) (b : BothThere w v) where
   both : SamePattern w v

@@ -104,8 +104,9 @@ pub record Examples : Type 0 where
   pub h-17 : hashVerdict (fixedFor 9 2 1) 0 ≡ refused 17
   pub h-4-first : hashVerdict (fixedFor 9 1 1) 0 ≡ refused 4
   pub h-17-first : hashVerdict (fixedFor 7 1 0) 0 ≡ refused 17
-  -- with a field of V1 wild its second occurrence is found
-  pub wild-line : verdict (ask Hash R1 V1Wild 0 512) ≡ accepted (record { steps = 9; written = 11 ∷ 22 ∷ []; mark = 27; ending = done })
+  -- with a field of V1 wild its other occurrences are found; skip refuses it as it does V1
+  pub wild-line : verdict (ask Hash R1 V1Wild 0 512) ≡ accepted (record { steps = 7; written = 11 ∷ 17 ∷ 22 ∷ []; mark = 27; ending = done })
+  pub wild-skip : verdict (ask Skip R1 V1Wild 0 mostCells) ≡ refused 5
   -- the figure by itself: 3 comes before 5
   pub cells-value : scratchVerdict Skip 21 ≡ accepted 277
   pub cells-3 : scratchVerdict Hash 0 ≡ refused 3

@@ -35,7 +35,7 @@ abbrev pub checkOf : Checked → Verdict (Unit {0})
 checkOf Passed = accepted tt
 checkOf (Refused r) = refused (numberOfRefusal r)
 
--- the first of the refusals 1 to 7 that applies; the list and the budget play no part in them
+-- the first of the refusals 1, 2, 3, 4, 17, 5, 6, 7 that applies; the list and the budget play no part in them
 unfoldable pub checkVerdict : Packed → Pattern → Method → ℕ → List ℕ → Verdict (Unit {0})
 checkVerdict t w x s scratch =
     judge (rows (record { text = t; pattern = w; method = x; mark = s; budget = 0; list = []; scratch = scratch })) tt

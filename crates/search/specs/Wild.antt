@@ -1,5 +1,5 @@
--- What a pattern's second run is to a call ("Wild bits in a word"): with every bit fixed a call answers as before there was one, and
--- patterns that are alike get the same answers. The theorems are in proofs/Wild.antt.
+-- What a pattern's second run is to a call ("Wild bits in a word"): with every bit fixed a call, a search or one for H(B), answers
+-- as before there was one, and patterns that are alike get the same answers. The theorems are in proofs/Wild.antt.
 use Prim.Native.Nat.{ℕ, _≤_}
 use mathlib.Core.Path.{_≡_}
 use mathlib.Core.List.{List, [], _∷_}
@@ -41,6 +41,11 @@ rowsBefore q =
 -- what a call came to before, by the rules as they were, which look at no second run
 unfoldable pub verdictBefore : Request → Verdict Run
 verdictBefore q = judge (rowsBefore q) (Before.run (q .method) (q .text) (q .pattern) (q .budget) (q .mark) (length (q .list)))
+
+-- H(B) by itself before: "with refusals 3, 4, 5"
+unfoldable pub hashVerdictBefore : Pattern → ℕ → Verdict ℕ
+hashVerdictBefore w B =
+    judge (patternLength (w .count) ∷ patternBytesMissing w ∷ patternUnfit Hash (w .count) ∷ []) (Before.hashOf w B)
 
 -- "Given the scratch now needed, a word with every bit fixed answers as today": its second run is there and has a 1 for each bit
 pub record EveryBitFixed (q : Request) : Type 0 where

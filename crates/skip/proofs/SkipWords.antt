@@ -1,4 +1,4 @@
--- Laws of a walk by words: what the flags of 56 moves say of the pattern's indices, and that the lowest one is the last index that
+-- Laws of a walk by words: what the flags of 57 moves say of the pattern's indices, and that the lowest one is the last index that
 -- shows the byte.
 -- Assumes nothing.
 use Prim.Native.Nat.{ℕ, suc, _+_, _-_, _*_, _/_, _%_, _^_, _≤_, _<_, min}
@@ -29,7 +29,7 @@ use Rattle.matcher.proofs.LinedCells.{only-then, only-wider, only-rest, words-s
 use Rattle.skip.proofs.SkipBelow.{Below, below-eq}
 
 -- a flag before the cut is that of one of the block's moves, whose index the pattern has
-module _ (m d e end : ℕ) (cut : 64 - end ≡ min (m - 7 - d) 56) (l : e < 64 - end) where
+module _ (m d e k : ℕ) (kept : k ≤ 57) (inside : d + k + 7 ≤ m) (l : e < k) where
   reach : d + e + 8 ≤ m
   reach = omega arith
 
@@ -37,21 +37,21 @@ module _ (m d e end : ℕ) (cut : 64 - end ≡ min (m - 7 - d) 56) (l : e < 64 -
   under = omega arith
 
 -- the index of a block's flag is near enough to the block's end
-near-enough : (m c e : ℕ) → 56 * c + e + 8 ≤ m → e < 56 → m ≤ m - 7 - 56 * c - e - 1 + 56 * c + 63
+near-enough : (m c e : ℕ) → 57 * c + e + 8 ≤ m → e < 57 → m ≤ m - 7 - 57 * c - e - 1 + 57 * c + 64
 near-enough m c e h l = omega arith
 
 -- the index of a further flag lies below
-further-below : (m c e j : ℕ) → e < j → 56 * c + j + 8 ≤ m → m - 8 - (56 * c + j) < m - 7 - 56 * c - e - 1
+further-below : (m c e j : ℕ) → e < j → 57 * c + j + 8 ≤ m → m - 8 - (57 * c + j) < m - 7 - 57 * c - e - 1
 further-below m c e j l h = omega arith
 
 -- and what lies below an index that does not lie above k
-below-both : (m c e k x : ℕ) → m - 8 - (56 * c + e) < k → x < m - 7 - 56 * c - e - 1 → x < k
+below-both : (m c e k x : ℕ) → m - 8 - (57 * c + e) < k → x < m - 7 - 57 * c - e - 1 → x < k
 below-both m c e k x h l = omega arith
 
-rest-le : (m c e k : ℕ) → m - 8 - (56 * c + e) < k → m - 7 - 56 * c - e - 1 ≤ k
+rest-le : (m c e k : ℕ) → m - 8 - (57 * c + e) < k → m - 7 - 57 * c - e - 1 ≤ k
 rest-le m c e k h = omega arith
 
-not-itself : (m c e : ℕ) → 56 * c + e + 8 ≤ m → m - 8 - (56 * c + e) < m - 7 - 56 * c - e - 1 → ⊥
+not-itself : (m c e : ℕ) → 57 * c + e + 8 ≤ m → m - 8 - (57 * c + e) < m - 7 - 57 * c - e - 1 → ⊥
 not-itself m c e h l = omega arith
 
 module _ (w : Pattern) (B : ℕ) where
@@ -111,36 +111,56 @@ module _ (w : Pattern) (B : ℕ) where
   shown-less k l d h none =
       not-true-false _ (λ t. true≢false (sym (to-shown k d (shown-fits l d t) (omega (arith, shown-below l d t)) (shown-shows l d t)) ∙ none))
 
-  -- The flags of a block, from the words of the byte's last and of its first four bits; those from bit 64 - end on are cut off.
-  module _ (d a b end : ℕ) (f : Lined w d 4 (B % 16) a) (g : Lined w d 4 (B / 16) b) (some : d + 8 ≤ w .count) (cut : 64 - end ≡ min (w .count - 7 - d) 56) (few : end < 64) where
-    mask-bit : (e : ℕ) → weight (all-ones / 2 ^ end) e ≡ cond (ltb e (64 - end)) 1 0
-    mask-bit e = weight-shr all-ones end e ∙ go (decLe (64 - end) e)
-      where
-        go : Dec (64 - end ≤ e) → weight all-ones (end + e) ≡ cond (ltb e (64 - end)) 1 0
-        go (yes l) = weight-out {x = all-ones} {w = 64} {i = end + e} (omega arith) (omega arith) ∙ rw (le-ltb e (64 - end) l)
-        go (no l) = weight-ones 64 (end + e) (omega arith) ∙ rw (lt-ltb e (64 - end) (omega arith))
+  -- The flags of a block, from the words of the byte's last and of its first four bits
+  module _ (d a b : ℕ) (f : Lined w d 4 (B % 16) a) (g : Lined w d 4 (B / 16) b) where
+    -- the first k of them, whose indices the pattern has
+    joined : (k e : ℕ) → k ≤ 57 → d + k + 7 ≤ w .count → e < k → weight (bitAnd a (b / 2 ^ 4)) e ≡ cond (ltb e 57 && shownBy w B (w .count) (d + e)) 1 0
+    joined k e kept inside l =
+        let fits : d + e + 8 ≤ w .count = reach (w .count) d e k kept inside l in
+        lined-join w d 4 B a b f g e
+        ∙ rw (le-leb (e + 8) 64 (under (w .count) d e k kept inside l), lt-ltb e 57 (omega arith), shown-all (d + e) fits, shows-meets (d + e) fits)
 
-    pub flags-are : Flags w B (w .count) d (bitAnd (bitAnd a (b / 2 ^ 4)) (all-ones / 2 ^ end))
-    flags-are e =
-        weight-and (bitAnd a (b / 2 ^ 4)) (all-ones / 2 ^ end) e
-        ∙ ap₂ min (lined-join w d 4 B a b f g e) (mask-bit e)
-        ∙ go (decLe (64 - end) e)
+    -- the pattern has the indices of all
+    pub flags-whole : d + 64 ≤ w .count → Flags w B (w .count) d (bitAnd a (b / 2 ^ 4))
+    flags-whole inside e = go (decLe 57 e)
       where
-        bit : (z : Bool) → min (cond z 1 0) 1 ≡ cond z 1 0
-        bit true = refl
-        bit false = refl
-
-        go : Dec (64 - end ≤ e) → min (cond (leb (e + 8) 64 && meetsLast w 8 B (d + e)) 1 0) (cond (ltb e (64 - end)) 1 0) ≡ cond (ltb e 56 && shownBy w B (w .count) (d + e)) 1 0
+        go : Dec (57 ≤ e) → weight (bitAnd a (b / 2 ^ 4)) e ≡ cond (ltb e 57 && shownBy w B (w .count) (d + e)) 1 0
         go (yes l) =
-            let zero : (x : ℕ) → min x 0 ≡ 0 = λ x. omega arith in
-            rw (le-ltb e (64 - end) l)
-            (zero (cond (leb (e + 8) 64 && meetsLast w 8 B (d + e)) 1 0)
-            ∙ sym (ap (λ (z : Bool). cond z 1 0) (not-true-false (ltb e 56 && shownBy w B (w .count) (d + e)) (λ t.
-            absurd (omega (arith, ltb-true e 56 (and-left (ltb e 56) _ t), shown-fits (w .count) (d + e) (and-right (ltb e 56) _ t)))))))
-        go (no l) =
-            let fits : d + e + 8 ≤ w .count = reach (w .count) d e end cut (omega arith) in
-            rw (lt-ltb e (64 - end) (omega arith), le-leb (e + 8) 64 (under (w .count) d e end cut (omega arith)), lt-ltb e 56 (omega arith), shown-all (d + e) fits, shows-meets (d + e) fits)
-            (bit (showsByte w B (w .count - 8 - (d + e))))
+            lined-join w d 4 B a b f g e
+            ∙ rw (not-true-false (leb (e + 8) 64) (λ t. absurd (omega (arith, leb-true (e + 8) 64 t))), le-ltb e 57 l)
+        go (no l) = joined 57 e (omega arith) (omega arith) (omega arith)
+
+    -- or of the first k alone, and the others are cut off
+    module _ (k : ℕ) (kept : k < 57) (last : d + k + 7 ≡ w .count) where
+      mask-bit : (e : ℕ) → weight (all-ones / 2 ^ (64 - k)) e ≡ cond (ltb e k) 1 0
+      mask-bit e = weight-shr all-ones (64 - k) e ∙ go (decLe k e)
+        where
+          go : Dec (k ≤ e) → weight all-ones (64 - k + e) ≡ cond (ltb e k) 1 0
+          go (yes l) = weight-out {x = all-ones} {w = 64} {i = 64 - k + e} (omega arith) (omega arith) ∙ rw (le-ltb e k l)
+          go (no l) = weight-ones 64 (64 - k + e) (omega arith) ∙ rw (lt-ltb e k (omega arith))
+
+      pub flags-last : Flags w B (w .count) d (bitAnd (bitAnd a (b / 2 ^ 4)) (all-ones / 2 ^ (64 - k)))
+      flags-last e =
+          weight-and (bitAnd a (b / 2 ^ 4)) (all-ones / 2 ^ (64 - k)) e
+          ∙ ap (min (weight (bitAnd a (b / 2 ^ 4)) e)) (mask-bit e)
+          ∙ go (decLe k e)
+        where
+          none : (x : ℕ) → min x 0 ≡ 0
+          none x = omega arith
+
+          whole : (x : ℕ) → x < 2 → min x 1 ≡ x
+          whole x l = omega arith
+
+          go : Dec (k ≤ e) → min (weight (bitAnd a (b / 2 ^ 4)) e) (cond (ltb e k) 1 0) ≡ cond (ltb e 57 && shownBy w B (w .count) (d + e)) 1 0
+          go (yes l) =
+              rw (le-ltb e k l)
+              (none (weight (bitAnd a (b / 2 ^ 4)) e)
+              ∙ sym (ap (λ (z : Bool). cond z 1 0) (not-true-false (ltb e 57 && shownBy w B (w .count) (d + e)) (λ t.
+              absurd (omega (arith, shown-fits (w .count) (d + e) (and-right (ltb e 57) _ t)))))))
+          go (no l) =
+              rw (lt-ltb e k (omega arith))
+              (whole (weight (bitAnd a (b / 2 ^ 4)) e) (weight-lt (bitAnd a (b / 2 ^ 4)) e)
+              ∙ joined k e (omega arith) (omega arith) (omega arith))
 
   -- The first block, the flags of indices from k on cut off: those of the first m - 7 - k moves.
   module _ (k d f : ℕ) (first : d ≡ 0) (h : Flags w B (w .count) d f) (low : k + 7 ≤ w .count) (high : w .count < k + 15) where
@@ -157,7 +177,7 @@ module _ (w : Pattern) (B : ℕ) where
         go (no u) = rw (not-true-false (leb s e) (λ t. u (leb-true s e t))) (weight-shl-low all-ones {s = s} {i = e} (omega arith))
 
     pub flags-cut : Flags w B k d (bitAnd f ((all-ones * 2 ^ (w .count - 7 - k)) % 2 ^ 64))
-    flags-cut e = weight-and f _ e ∙ go (decLe 56 e) (decLe (w .count - 7 - k) e)
+    flags-cut e = weight-and f _ e ∙ go (decLe 57 e) (decLe (w .count - 7 - k) e)
       where
         s : ℕ
         s = w .count - 7 - k
@@ -171,45 +191,45 @@ module _ (w : Pattern) (B : ℕ) where
         whole : (x : ℕ) → x < 2 → min x 1 ≡ x
         whole x l = omega arith
 
-        go : Dec (56 ≤ e) → Dec (s ≤ e)
-            → min (weight f e) (weight ((all-ones * 2 ^ s) % 2 ^ 64) e) ≡ cond (ltb e 56 && shownBy w B k (d + e)) 1 0
-        go (yes l) _ = rw (h e, le-ltb e 56 l) (least (weight ((all-ones * 2 ^ s) % 2 ^ 64) e))
+        go : Dec (57 ≤ e) → Dec (s ≤ e)
+            → min (weight f e) (weight ((all-ones * 2 ^ s) % 2 ^ 64) e) ≡ cond (ltb e 57 && shownBy w B k (d + e)) 1 0
+        go (yes l) _ = rw (h e, le-ltb e 57 l) (least (weight ((all-ones * 2 ^ s) % 2 ^ 64) e))
         go (no l) (yes u) =
             rw (cut-bit e (omega arith), le-leb s e u)
             (whole (weight f e) (weight-lt f e)
             ∙ h e
-            ∙ ap (λ (z : Bool). cond (ltb e 56 && z) 1 0) (shown-other (w .count) k (d + e) (λ a b. omega arith) (λ a b. omega arith)))
+            ∙ ap (λ (z : Bool). cond (ltb e 57 && z) 1 0) (shown-other (w .count) k (d + e) (λ a b. omega arith) (λ a b. omega arith)))
         go (no l) (no u) =
             rw (cut-bit e (omega arith), not-true-false (leb s e) (λ t. u (leb-true s e t)))
             (none (weight f e)
-            ∙ sym (ap (λ (z : Bool). cond z 1 0) (not-true-false (ltb e 56 && shownBy w B k (d + e)) (λ t.
-            absurd (omega (arith, shown-below k (d + e) (and-right (ltb e 56) _ t), shown-fits k (d + e) (and-right (ltb e 56) _ t)))))))
+            ∙ sym (ap (λ (z : Bool). cond z 1 0) (not-true-false (ltb e 57 && shownBy w B k (d + e)) (λ t.
+            absurd (omega (arith, shown-below k (d + e) (and-right (ltb e 57) _ t), shown-fits k (d + e) (and-right (ltb e 57) _ t)))))))
 
   -- A walk that has the indices below k before it, and the flags f of the block c
   module _ (k c f : ℕ) (u : Flagging w B k c f) where
     -- a bit that is 0 rules its move out
-    unset : (e : ℕ) → weight f e ≡ 0 → e < 56 → shownBy w B k (56 * c + e) ≡ false
+    unset : (e : ℕ) → weight f e ≡ 0 → e < 57 → shownBy w B k (57 * c + e) ≡ false
     unset e z l =
-        let inside : ltb e 56 ≡ true = lt-ltb e 56 l in
-        zero-false (shownBy w B k (56 * c + e)) (sym (rw inside at (u .flags e)) ∙ z)
+        let inside : ltb e 57 ≡ true = lt-ltb e 57 l in
+        zero-false (shownBy w B k (57 * c + e)) (sym (rw inside at (u .flags e)) ∙ z)
 
     -- no index of a move up to the block's bit e shows the byte
-    none-to : (e : ℕ) → e ≤ 56 → ((i : ℕ) → i < e → weight f i ≡ 0) → (d : ℕ) → d < 56 * c + e → shownBy w B k d ≡ false
-    none-to e l z d h = go (decLe (56 * c) d)
+    none-to : (e : ℕ) → e ≤ 57 → ((i : ℕ) → i < e → weight f i ≡ 0) → (d : ℕ) → d < 57 * c + e → shownBy w B k d ≡ false
+    none-to e l z d h = go (decLe (57 * c) d)
       where
-        go : Dec (56 * c ≤ d) → shownBy w B k d ≡ false
+        go : Dec (57 * c ≤ d) → shownBy w B k d ≡ false
         go (no n) = u .none d (omega arith)
         go (yes n) =
-            let there : 56 * c + (d - 56 * c) ≡ d = omega arith in
-            rw there at (unset (d - 56 * c) (z (d - 56 * c) (omega arith)) (omega arith))
+            let there : 57 * c + (d - 57 * c) ≡ d = omega arith in
+            rw there at (unset (d - 57 * c) (z (d - 57 * c) (omega arith)) (omega arith))
 
     -- no flag is set
     module _ (empty : f ≡ 0) where
-      none-here : (d : ℕ) → d < 56 * c + 56 → shownBy w B k d ≡ false
-      none-here = none-to 56 (omega arith) (λ i l. ap (λ (x : ℕ). weight x i) empty ∙ weight-zero i)
+      none-here : (d : ℕ) → d < 57 * c + 57 → shownBy w B k d ≡ false
+      none-here = none-to 57 (omega arith) (λ i l. ap (λ (x : ℕ). weight x i) empty ∙ weight-zero i)
 
       -- the next block
-      pub flagging-more : (g : ℕ) → 56 * (c + 1) + 8 ≤ w .count → Flags w B (w .count) (56 * (c + 1)) g → Flagging w B k (c + 1) g
+      pub flagging-more : (g : ℕ) → 57 * (c + 1) + 8 ≤ w .count → Flags w B (w .count) (57 * (c + 1)) g → Flagging w B k (c + 1) g
       flagging-more g fits flags =
           record {
             inside = fits;
@@ -217,12 +237,12 @@ module _ (w : Pattern) (B : ℕ) where
             none = λ d l. none-here d (omega arith);
             flags = λ e.
                 flags e
-                ∙ ap (λ (z : Bool). cond (ltb e 56 && z) 1 0)
-                (shown-other (w .count) k (56 * (c + 1) + e) (λ a b. omega (arith, u .near)) (λ a b. omega arith));
+                ∙ ap (λ (z : Bool). cond (ltb e 57 && z) 1 0)
+                (shown-other (w .count) k (57 * (c + 1) + e) (λ a b. omega (arith, u .near)) (λ a b. omega arith));
           }
 
       -- there is none
-      pub flagging-end : w .count < 56 * (c + 1) + 8 → k + 7 ≤ w .count → 0 ≡ lastShown w B k
+      pub flagging-end : w .count < 57 * (c + 1) + 8 → k + 7 ≤ w .count → 0 ≡ lastShown w B k
       flagging-end last few =
           sym (below-eq (showsByte w B) k 0
           (record {
@@ -236,91 +256,91 @@ module _ (w : Pattern) (B : ℕ) where
       abbrev e : ℕ
       e = trailingZeros 64 f
 
-      lit : (ltb e 56 && shownBy w B k (56 * c + e)) ≡ true
+      lit : (ltb e 57 && shownBy w B k (57 * c + e)) ≡ true
       lit = one-true _ (sym (u .flags e) ∙ trailing-at 64 f (trailing-lt 64 64 f small some))
 
-      pub low-lt : trailingZeros 64 f < 56
-      low-lt = ltb-true e 56 (and-left (ltb e 56) _ lit)
+      pub low-lt : trailingZeros 64 f < 57
+      low-lt = ltb-true e 57 (and-left (ltb e 57) _ lit)
 
-      shown : shownBy w B k (56 * c + e) ≡ true
-      shown = and-right (ltb e 56) _ lit
+      shown : shownBy w B k (57 * c + e) ≡ true
+      shown = and-right (ltb e 57) _ lit
 
-      pub low-fits : 56 * c + trailingZeros 64 f + 8 ≤ w .count
-      low-fits = shown-fits k (56 * c + e) shown
+      pub low-fits : 57 * c + trailingZeros 64 f + 8 ≤ w .count
+      low-fits = shown-fits k (57 * c + e) shown
 
       abbrev i : ℕ
-      i = w .count - 8 - (56 * c + e)
+      i = w .count - 8 - (57 * c + e)
 
       i-below : i < k
-      i-below = shown-below k (56 * c + e) shown
+      i-below = shown-below k (57 * c + e) shown
 
-      before : (d : ℕ) → d < 56 * c + e → shownBy w B k d ≡ false
+      before : (d : ℕ) → d < 57 * c + e → shownBy w B k d ≡ false
       before = none-to e (omega (arith, low-lt)) (λ j l. trailing-below 64 f j l)
 
-      pub lowest-is : k + 7 ≤ w .count → w .count - 7 - 56 * c - trailingZeros 64 f ≡ lastShown w B k
+      pub lowest-is : k + 7 ≤ w .count → w .count - 7 - 57 * c - trailingZeros 64 f ≡ lastShown w B k
       lowest-is few =
-          sym (below-eq (showsByte w B) k (w .count - 7 - 56 * c - e)
+          sym (below-eq (showsByte w B) k (w .count - 7 - 57 * c - e)
           (record {
             within = omega (arith, i-below, low-fits);
-            passes = λ j q. let there : j ≡ i = omega (arith, low-fits) in rw there (shown-shows k (56 * c + e) shown);
+            passes = λ j q. let there : j ≡ i = omega (arith, low-fits) in rw there (shown-shows k (57 * c + e) shown);
             none = λ j l h. sym (shown-at k j (omega arith) h) ∙ before (w .count - 8 - j) (omega (arith, low-fits));
           }))
 
       -- the flags of the indices below it
-      pub flagging-rest : Flagging w B (w .count - 7 - 56 * c - trailingZeros 64 f - 1) c (bitAnd f (f - 1))
+      pub flagging-rest : Flagging w B (w .count - 7 - 57 * c - trailingZeros 64 f - 1) c (bitAnd f (f - 1))
       flagging-rest =
-          let less : w .count - 7 - 56 * c - e - 1 ≤ k = rest-le (w .count) c e k i-below in
+          let less : w .count - 7 - 57 * c - e - 1 ≤ k = rest-le (w .count) c e k i-below in
           record {
             inside = u .inside;
             near = near-enough (w .count) c e low-fits low-lt;
-            none = λ d l. shown-less k (w .count - 7 - 56 * c - e - 1) d less (u .none d l);
+            none = λ d l. shown-less k (w .count - 7 - 57 * c - e - 1) d less (u .none d l);
             flags = λ j. go j (ℕ-discrete j e);
           }
         where
-          earlier : (j : ℕ) → j ≤ e → (j ≡ e → ⊥) → 56 * c + j < 56 * c + e
+          earlier : (j : ℕ) → j ≤ e → (j ≡ e → ⊥) → 57 * c + j < 57 * c + e
           earlier j l n = apart (decLe e j)
             where
-              apart : Dec (e ≤ j) → 56 * c + j < 56 * c + e
+              apart : Dec (e ≤ j) → 57 * c + j < 57 * c + e
               apart (yes h) = absurd (n (omega arith))
               apart (no h) = omega arith
 
-          go : (j : ℕ) → Dec (j ≡ e) → weight (bitAnd f (f - 1)) j ≡ cond (ltb j 56 && shownBy w B (w .count - 7 - 56 * c - e - 1) (56 * c + j)) 1 0
+          go : (j : ℕ) → Dec (j ≡ e) → weight (bitAnd f (f - 1)) j ≡ cond (ltb j 57 && shownBy w B (w .count - 7 - 57 * c - e - 1) (57 * c + j)) 1 0
           go j (yes q) =
               rw q
               (lowest-gone 64 f small some
-              ∙ sym (ap (λ (z : Bool). cond z 1 0) (not-true-false (ltb e 56 && shownBy w B (w .count - 7 - 56 * c - e - 1) (56 * c + e)) (λ t.
-              absurd (not-itself (w .count) c e low-fits (shown-below (w .count - 7 - 56 * c - e - 1) (56 * c + e) (and-right (ltb e 56) _ t)))))))
+              ∙ sym (ap (λ (z : Bool). cond z 1 0) (not-true-false (ltb e 57 && shownBy w B (w .count - 7 - 57 * c - e - 1) (57 * c + e)) (λ t.
+              absurd (not-itself (w .count) c e low-fits (shown-below (w .count - 7 - 57 * c - e - 1) (57 * c + e) (and-right (ltb e 57) _ t)))))))
           go j (no n) =
               others-stay 64 f small some j n
               ∙ u .flags j
               ∙ after (decLe j e)
             where
-              after : Dec (j ≤ e) → _≡_ {A = ℕ} (cond (ltb j 56 && shownBy w B k (56 * c + j)) 1 0) (cond (ltb j 56 && shownBy w B (w .count - 7 - 56 * c - e - 1) (56 * c + j)) 1 0)
+              after : Dec (j ≤ e) → _≡_ {A = ℕ} (cond (ltb j 57 && shownBy w B k (57 * c + j)) 1 0) (cond (ltb j 57 && shownBy w B (w .count - 7 - 57 * c - e - 1) (57 * c + j)) 1 0)
               after (no l) =
-                  ap (λ (z : Bool). cond (ltb j 56 && z) 1 0)
-                  (shown-other k (w .count - 7 - 56 * c - e - 1) (56 * c + j) (λ a b. further-below (w .count) c e j (omega arith) a)
-                  (λ a b. below-both (w .count) c e k (w .count - 8 - (56 * c + j)) i-below b))
+                  ap (λ (z : Bool). cond (ltb j 57 && z) 1 0)
+                  (shown-other k (w .count - 7 - 57 * c - e - 1) (57 * c + j) (λ a b. further-below (w .count) c e j (omega arith) a)
+                  (λ a b. below-both (w .count) c e k (w .count - 8 - (57 * c + j)) i-below b))
               after (yes l) =
-                  let none = before (56 * c + j) (earlier j l n) in
-                  ap (λ (z : Bool). cond (ltb j 56 && z) 1 0)
-                  (none ∙ sym (shown-less k (w .count - 7 - 56 * c - e - 1) (56 * c + j) (rest-le (w .count) c e k i-below) none))
+                  let none = before (57 * c + j) (earlier j l n) in
+                  ap (λ (z : Bool). cond (ltb j 57 && z) 1 0)
+                  (none ∙ sym (shown-less k (w .count - 7 - 57 * c - e - 1) (57 * c + j) (rest-le (w .count) c e k i-below) none))
 
 -- The words of blocks below k are made.
 abbrev pub WordsTo : Pattern → ℕ → List ℕ → Type 0
-WordsTo w k cells = (i : ℕ) → i < k → Words w (56 * i) 4 (22 * i + 6) cells
+WordsTo w k cells = (i : ℕ) → i < k → Words w (57 * i) 4 (22 * i + 6) cells
 
 module _ (w : Pattern) (before : List ℕ) (room : 256 + w .count ≤ length before) where
   -- one block more
-  pub words-more : (k : ℕ) (cells cells' : List ℕ) → WordsTo w k cells → Words w (56 * k) 4 (22 * k + 6) cells' → Only (22 * k) (22 * k + 22) cells cells'
+  pub words-more : (k : ℕ) (cells cells' : List ℕ) → WordsTo w k cells → Words w (57 * k) 4 (22 * k + 6) cells' → Only (22 * k) (22 * k + 22) cells cells'
       → WordsTo w (k + 1) cells'
   words-more k cells cells' made new only i l = go (decLe k i)
     where
-      go : Dec (k ≤ i) → Words w (56 * i) 4 (22 * i + 6) cells'
+      go : Dec (k ≤ i) → Words w (57 * i) 4 (22 * i + 6) cells'
       go (yes h) = let here : i ≡ k = omega arith in rw here new
-      go (no h) = words-same w (56 * i) 4 (22 * i + 6) cells cells' (made i (omega arith)) (λ j a b. only .low j (omega arith))
+      go (no h) = words-same w (57 * i) 4 (22 * i + 6) cells cells' (made i (omega arith)) (λ j a b. only .low j (omega arith))
 
   -- all blocks are made, and the cell after them tells of words
-  pub words-all : (k : ℕ) (cells : List ℕ) → WordsTo w k cells → w .count < 56 * k + 8 → Only 0 (255 + w .count) (set before (255 + w .count) 1) cells
+  pub words-all : (k : ℕ) (cells : List ℕ) → WordsTo w k cells → w .count < 57 * k + 8 → Only 0 (255 + w .count) (set before (255 + w .count) 1) cells
       → Prepared Skip w before cells
   words-all k cells made all only =
       let kind : getD cells (255 + w .count) 0 ≡ 1 = only .high (255 + w .count) (omega arith) ∙ getD-set-same before (255 + w .count) 1 0 (omega arith) in

@@ -26,17 +26,17 @@ lastShown w B k = lastBelow (showsByte w B) k
 unfoldable pub shownBy : Pattern → ℕ → ℕ → ℕ → Bool
 shownBy w B k d = leb (d + 8) (w .count) && (ltb (w .count - 8 - d) k && showsByte w B (w .count - 8 - d))
 
--- the flags of 56 moves from d on: bit e tells whether the index of the move d + e lies below k and shows B
+-- the flags of 57 moves from d on: bit e tells whether the index of the move d + e lies below k and shows B
 abbrev pub Flags : Pattern → ℕ → ℕ → ℕ → ℕ → Type 0
-Flags w B k d left = (e : ℕ) → weight left e ≡ cond (ltb e 56 && shownBy w B k (d + e)) 1 0
+Flags w B k d left = (e : ℕ) → weight left e ≡ cond (ltb e 57 && shownBy w B k (d + e)) 1 0
 
--- A walk by words that has the indices below k before it: no index among them that shows B has a move before 56 c, the flags are
--- those of the 56 moves from there on, and the index of a later move lies below k.
+-- A walk by words that has the indices below k before it: no index among them that shows B has a move before 57 c, the flags are
+-- those of the 57 moves from there on, and the index of a later move lies below k.
 pub record Flagging (w : Pattern) (B k c left : ℕ) : Type 0 where
-  pub inside : 56 * c + 8 ≤ w .count
-  pub near : w .count ≤ k + 56 * c + 63
-  pub none : (d : ℕ) → d < 56 * c → shownBy w B k d ≡ false
-  pub flags : Flags w B k (56 * c) left
+  pub inside : 57 * c + 8 ≤ w .count
+  pub near : w .count ≤ k + 57 * c + 64
+  pub none : (d : ℕ) → d < 57 * c → shownBy w B k d ≡ false
+  pub flags : Flags w B k (57 * c) left
 
 -- A walk has come to a link. Along a chain it is one of the chain, once its index is one of those chained; by words, the
 -- flags left are those of the indices below it.

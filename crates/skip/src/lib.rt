@@ -1,7 +1,7 @@
 // The skip method: one whole byte of the text decides many places. There are two kinds of tables. Where every bit of the
 // pattern is fixed, cell B, below 256, is the head of the chain of the indices at which the pattern shows the byte B,
 // highest first, and cell 256 + j is the link after index j. Head and link are one more than an index, and 0 ends the chain.
-// With wild bits an index shows many bytes. Then the cells hold words of flags (`matcher::wild`), 22 for each 56 indices from
+// With wild bits an index shows many bytes. Then the cells hold words of flags (`matcher::wild`), 22 for each 57 indices from
 // the last one down: two loads and an `and` tell which of these show a byte, and the lowest flag is the highest index. Cell
 // 255 + m, which neither kind uses, tells which it is.
 //
@@ -94,7 +94,7 @@ fn prepare_chains(pattern: &[u8], fixed: &[u8], m: u32, cells: &mut [u64])
     enter(pattern, fixed, m, j, count - j, cells);
 }
 
-// The words, for 56 indices at a time.
+// The words, for 57 indices at a time.
 fn prepare_words(pattern: &[u8], fixed: &[u8], m: u32, cells: &mut [u64])
     requires { ⌜ GoodPattern Method.Skip (patternOf (now pattern) (now fixed) m) ⌝ }
     requires { ⌜ scratchCells Method.Skip m ≤ length (now cells) ⌝ }
@@ -102,8 +102,8 @@ fn prepare_words(pattern: &[u8], fixed: &[u8], m: u32, cells: &mut [u64])
 {
     cells[255 + m as usize] = 1;
     let mut k = 0u32;
-    while 56 * k + 8 <= m {
-        wild::line_up(pattern, fixed, m, 56 * k, cells, (22 * k) as usize);
+    while 57 * k + 8 <= m {
+        wild::line_up(pattern, fixed, m, 57 * k, cells, (22 * k) as usize);
         k += 1;
     }
 }
@@ -163,18 +163,22 @@ fn next_link(pattern: &[u8], fixed: &[u8], m: u32, cells: &[u64], v: u8, j: u64)
     j - 1
 }
 
-// The flags of the 56 moves from 56 c on: the words of the byte's last and of its first four bits, those after index 0 cut off.
+// The flags of the 57 moves from 57 c on: the words of the byte's last and of its first four bits, and in the last block those
+// after index 0 cut off.
 fn flags(pattern: &[u8], fixed: &[u8], m: u32, cells: &[u64], v: u8, c: u32) -> u64
     requires { ⌜ WordTables (patternOf (now pattern) (now fixed) m) (now cells) ⌝ }
-    requires { ⌜ (256 + m ≤ length (now cells)) × (m ≤ 2048) × (56 * c + 8 ≤ m) ⌝ }
-    ensures { λ r. ⌜ Flags (patternOf (now (pattern .entry)) (now (fixed .entry)) m) v m (56 * c) r ⌝ }
+    requires { ⌜ (256 + m ≤ length (now cells)) × (m ≤ 2048) × (57 * c + 8 ≤ m) ⌝ }
+    ensures { λ r. ⌜ Flags (patternOf (now (pattern .entry)) (now (fixed .entry)) m) v m (57 * c) r ⌝ }
 {
     let at = (22 * c + 6) as usize;
     let last = cells[at + (v % 16) as usize];
     let first = cells[at + (v / 16) as usize];
-    let left = m - 7 - 56 * c;
-    let end = if left < 56 { 64 - left } else { 8 };
-    last & (first >> 4) & (ALL >> end)
+    let both = last & (first >> 4);
+    let left = m - 7 - 57 * c;
+    if left < 57 {
+        return both & (ALL >> (64 - left));
+    }
+    both
 }
 
 // The link of the lowest flag, in the first block from c on that has one.
@@ -197,7 +201,7 @@ fn lowest(
     let mut f = left;
     while f == 0 {
         block += 1;
-        if m < 56 * block + 8 {
+        if m < 57 * block + 8 {
             return Links {
                 first: 0,
                 block: block,
@@ -207,7 +211,7 @@ fn lowest(
         f = flags(pattern, fixed, m, cells, v, block);
     }
     Links {
-        first: (m - 7 - 56 * block - u64::trailing_zeros(f)) as u64,
+        first: (m - 7 - 57 * block - u64::trailing_zeros(f)) as u64,
         block: block,
         left: f & (f - 1),
     }

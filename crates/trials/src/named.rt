@@ -1,6 +1,6 @@
 // Named cases: the course's papers, what students write, and the examples of rows 1 to 7 of the table of refusals, in
-// document 01; and by the rules of document 02 tail on the same pairs and one more, the steps that a full list cuts, and the
-// figures of the scratch. Each is also compared with the naive side.
+// document 01; and by the rules of document 02 tail on the same pairs and one more, the steps that a full list cuts, the
+// figures of the scratch, patterns with wild bits, and row 17. Each is also compared with the naive side.
 use crate::call;
 use crate::call::ALL;
 use crate::call::Call;

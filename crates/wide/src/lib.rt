@@ -1,8 +1,8 @@
 // The wide method: a step decides 64 places at once. Flag i stands for place s + i, and the window, the 63 + m bits of the
-// text from s on, holds all of these places. Window bit q lets flag i fall if the pattern's bit at index q - i is another
-// one; cell 2 q + c of the table holds the flags that it leaves standing if it is c. Cells may be ANDed in any order, and
-// few window bits leave few flags: those are settled by comparison, lowest first. The bit after the window tells how far the
-// next mark lies ahead: where the pattern's last index with that bit lies on it.
+// text from s on, holds all of these places. Window bit q lets flag i fall if the pattern's bit at index q - i is fixed and
+// another one; cell 2 q + c of the table holds the flags that it leaves standing if it is c. Cells may be ANDed in any
+// order, and few window bits leave few flags: those are settled by comparison, lowest first. The bit after the window tells
+// how far the next mark lies ahead: where the last index of the pattern that agrees with that bit lies on it.
 use bits::Place;
 use bits::bit;
 use bits::load;

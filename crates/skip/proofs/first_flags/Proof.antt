@@ -37,7 +37,7 @@ lowest-requires c κs =
           inside = omega arith;
           near = omega arith;
           none = λ d l. absurd (omega arith);
-          flags = flags-cut w (a .v) (a .k) (56 * 0) _ refl (c .flags .ensures) (s .pre .1 .3) (s .pre .1 .4);
+          flags = flags-cut w (a .v) (a .k) (57 * 0) _ refl (c .flags .ensures) (s .pre .1 .3) (s .pre .1 .4);
         },
       ),
     )

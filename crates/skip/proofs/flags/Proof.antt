@@ -1,23 +1,30 @@
--- `skip::flags` meets its contract: the words of the byte's halves joined, and cut off after index 0.
+-- `skip::flags` meets its contract: the words of the byte's halves joined, and in the last block cut off after index 0.
 -- Assumes nothing.
-use Prim.Native.Nat.{_+_, _-_, _*_, _/_, _%_, _<_, min}
-use mathlib.Core.Path.{_≡_}
-use mathlib.Core.Logic.{⊎-elim}
+use Prim.Native.Nat.{ℕ, _+_, _-_, _*_, _/_, _%_}
 use native.Mathlib.Omega.{arith}
 use denote.Ref.{now}
 use lib.ListN.{getD}
+use Rattle.rules.specs.Pattern.{Pattern}
 use Rattle.matcher.specs.Lined.{Lined}
 use Rattle.matcher.specs.Progress.{patternOf}
-use Rattle.skip.proofs.SkipWords.{flags-are}
+use Rattle.skip.proofs.SkipWords.{flags-whole, flags-last}
 use borrow.Author.Needs.{needs}
 use Rattle.skip.proofs.flags.Statement.{statement}
 use Rattle.skip.proofs.flags.Tie as tie
 
--- how many flags are kept
-kept : (c : tie.Joined1)
-    → let a = c .before .before .before .args in
-    (64 - c .if1 .end ≡ min (a .m - 7 - 56 * a .c) 56) × (c .if1 .end < 64)
-kept c = ⊎-elim (λ u. omega arith) (λ u. omega arith) (c .if1 .came)
+-- the pattern
+abbrev pattern : tie.Start → Pattern
+pattern s = patternOf (now (s .args .pattern)) (now (s .args .fixed)) (s .args .m)
+
+-- the words of the byte's last and of its first four bits
+halves : (s : tie.Start)
+    → let a = s .args in
+    let word : ℕ → ℕ = λ x. getD (now (a .cells)) (22 * a .c + 6 + x) 0 in
+    Lined (pattern s) (57 * a .c) 4 (a .v % 16) (word (a .v % 16)) × Lined (pattern s) (57 * a .c) 4 (a .v / 16) (word (a .v / 16))
+halves s =
+    let a = s .args in
+    let words = s .pre .0 .words-are (a .c) (s .pre .1 .2) in
+    (words (a .v % 16) (omega arith), words (a .v / 16) (omega (arith, s .fits .v .fits)))
 
 mul-at : tie.Need-mul-at
 mul-at c = search needs
@@ -61,20 +68,28 @@ mul-left c = search needs
 sub-left-2 : tie.Need-sub-left-2
 sub-left-2 c = search needs
 
-sub-end : tie.Need-sub-end
-sub-end c = search needs
+sub-result : tie.Need-sub-result
+sub-result c = search needs
+
+cast-result : tie.Need-cast-result
+cast-result c = search needs
 
 shr-result : tie.Need-shr-result
-shr-result c = kept (c .before) .1
+shr-result c = search needs
 
 returns : tie.Need-returns
 returns c =
-    let s = c .before .before .before .before in
+    let s = c .before .before .before in
     let a = s .args in
-    let w = patternOf (now (a .pattern)) (now (a .fixed)) (a .m) in
-    let words = s .pre .0 .words-are (a .c) (s .pre .1 .2) in
-    let k = kept (c .before) in
-    flags-are w (a .v) (56 * a .c) _ _ (c .before .if1 .end) (words (a .v % 16) (omega arith)) (words (a .v / 16) (omega (arith, s .fits .v .fits))) (s .pre .1 .2) (k .0) (k .1)
+    let h = halves s in
+    flags-last (pattern s) (a .v) (57 * a .c) _ _ (h .0) (h .1) (a .m - 7 - 57 * a .c) (c .if1 .taken) (omega arith)
+
+returns-2 : tie.Need-returns-2
+returns-2 c =
+    let s = c .before .before .before in
+    let a = s .args in
+    let h = halves s in
+    flags-whole (pattern s) (a .v) (57 * a .c) _ _ (h .0) (h .1) (omega arith)
 
 pub flags-spec : {M : Type 1} → statement M
 flags-spec =
@@ -94,6 +109,8 @@ flags-spec =
     sub-left
     mul-left
     sub-left-2
-    sub-end
+    sub-result
+    cast-result
     shr-result
-    returns)
+    returns
+    returns-2)

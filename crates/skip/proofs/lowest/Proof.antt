@@ -69,7 +69,7 @@ sub-t16 : tie.Need-sub-t16 Inv-loop μ-loop
 sub-t16 c = omega (arith, c .before .loop .inv .1 .inside)
 
 -- the lowest flag's index is one of the pattern's
-fits : (c : tie.After-loop Inv-loop μ-loop) → 56 * c .before .loop .block + trailingZeros 64 (c .before .loop .f) + 8 ≤ c .before .before .before .before .before .args .m
+fits : (c : tie.After-loop Inv-loop μ-loop) → 57 * c .before .loop .block + trailingZeros 64 (c .before .loop .f) + 8 ≤ c .before .before .before .before .before .args .m
 fits c =
     let l = c .before .loop in
     let s = c .before .before .before .before .before in

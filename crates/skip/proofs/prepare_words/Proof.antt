@@ -15,7 +15,7 @@ use Rattle.skip.proofs.prepare_words.Statement.{statement}
 use Rattle.skip.proofs.prepare_words.Tie as tie
 
 abbrev Inv-loop : tie.InvT-loop
-Inv-loop pattern fixed m cells₀ k₀ cells k = (56 * k ≤ m + 48) × WordsTo (patternOf pattern fixed m) k cells × Only 0 (255 + m) cells₀ cells
+Inv-loop pattern fixed m cells₀ k₀ cells k = (57 * k ≤ m + 49) × WordsTo (patternOf pattern fixed m) k cells × Only 0 (255 + m) cells₀ cells
 
 abbrev μ-loop : tie.MeasureT-loop
 μ-loop pattern fixed m cells₀ k₀ cells k = m - k
