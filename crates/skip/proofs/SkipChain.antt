@@ -175,3 +175,12 @@ module _ (t : Packed) (w : Pattern) (b : ℕ) where
     walk-end e =
         occurrences-further t w p (8 * b + 1 - j) (8 * b + 1) (omega arith) (omega arith)
         (λ q l h. none-from-places t w q (omega arith))
+
+  -- a walk by flags: no occurrence lies between the places of index k - 1 and of a link j, where the last index below k that shows
+  -- the byte is not from the link on
+  pub sweep-gap : (p k j : ℕ) → 8 * b + 8 ≤ p + w .count → k + p ≤ 8 * b + 1 → lastShown w byteOf k ≤ j → j ≤ k
+      → occurrences t w p (8 * b + 1 - j) ≡ occurrences t w p (8 * b + 1 - k)
+  sweep-gap p k j fits low next less =
+      occurrences-append t w p (8 * b + 1 - k) (8 * b + 1 - j) (omega arith) (omega arith)
+      ∙ ap (λ (r : List ℕ). occurrences t w p (8 * b + 1 - k) ++ r) (chain-gap k j next (omega arith) (omega arith))
+      ∙ append-nil _

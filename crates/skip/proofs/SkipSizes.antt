@@ -36,10 +36,11 @@ module _ (t : Packed) (w : Pattern) (cells : List ℕ) (ready : Ready Skip t w c
   pub end-fits : t .count - w .count + 1 < 2 ^ 32
   end-fits = let few = ready .few-bits in omega arith
 
-  pub byte-sizes : (b : ℕ) → 8 * b + 8 ≤ t .count → ByteSizes (t .count) (length (t .bytes)) b
+  pub byte-sizes : (b : ℕ) → 8 * b < places t w → ByteSizes (t .count) (length (t .bytes)) b
   byte-sizes b h =
       let few = ready .few-bits in
       let there = ready .bytes-there in
+      let long = long-enough in
       record { small = omega arith; first = omega arith; top = omega arith; top-wide = omega arith; there = omega arith; less = λ j. omega arith }
 
   module _ (s : ℕ) where

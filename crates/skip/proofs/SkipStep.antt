@@ -17,7 +17,7 @@ use Rattle.matcher.specs.Tables.{chained}
 use Rattle.matcher.specs.Progress.{Stepped, Writing, Advanced}
 use Rattle.rules.proofs.Ranges.{among-same}
 use Rattle.rules.proofs.Occurrence.{occurrences-append, occurrences-one}
-use Rattle.matcher.proofs.Advancing.{counted, advanced-step}
+use Rattle.matcher.proofs.Advancing.{advanced-step}
 use Rattle.matcher.proofs.Writing.{writing-more, writing-length, stepped-whole, stepped-full}
 use Rattle.rules.proofs.Skip.{reaches-byte, shown-occurs}
 use Rattle.skip.proofs.SkipChain.{chained-span}
@@ -67,30 +67,26 @@ module _ (t : Packed) (w : Pattern) where
         rw (there ∙ sym (skip-next-is s long))
         (stepped-whole Skip t w s before had list hits (rw (skip-finds-are s long ∙ sym e) u))
 
+  -- all occurrences up to 8 b + 1 are written, and each lies below E
+  pub skip-all : (s : ℕ) (before : List ℕ) (had : ℕ) (list : List ℕ) (hits b : ℕ) → lastByte w s ≡ b → 8 * b < places t w → 15 ≤ w .count
+      → Writing before had (occurrences t w s (8 * b + 1)) list hits → Stepped Skip t w s before had (8 * b + 1) hits false list
+  skip-all s before had list hits b last inside long u =
+      let there : 8 * b + 1 ≡ min (8 * lastByte w s + 1) (places t w) = rw last (omega arith) in
+      skip-whole s before had list hits (8 * b + 1) u (8 * b + 1) long (rw last refl) there
+
   -- a mark 8 a + 1, from its last byte b
   pub mark-from : (at b : ℕ) → 15 ≤ w .count → at % 8 ≡ 1 → b ≡ lastByte w at → 8 * b + 1 - chained (w .count) ≡ at
   mark-from at b long odd last = omega (arith, chained-span at (w .count) odd long, reaches-byte w at long)
 
-  -- A turn of many steps: a step more from a mark 8 a + 1 below E, by its last byte b.
-  module _ (s budget : ℕ) (before : List ℕ) (had at steps hits : ℕ) (list : List ℕ) (room : had ≤ length before)
-      (made : Advanced Skip t w s budget before had (min at (places t w)) steps hits false list)
-      (inside : at < places t w) (few : steps < budget) (long : 15 ≤ w .count) (b : ℕ) (last : b ≡ lastByte w at) where
-    here : min at (places t w) ≡ at
-    here = omega arith
-
-    ahead-is : next Skip t w at ≡ min (8 * b + 1) (places t w)
-    ahead-is = rw last (skip-next-is at long)
-
-    -- its places are walked
-    pub turn-step : (at' hits' : ℕ) (no-cell : Bool) (list' : List ℕ) → Stepped Skip t w at list hits at' hits' no-cell list'
-        → Advanced Skip t w s budget before had at' (counted no-cell steps) hits' no-cell list'
-    turn-step at' hits' no-cell list' u =
-        advanced-step Skip t w s budget before had at steps hits list room (rw here at made) at' hits' no-cell list' inside few u
-
-    -- each of them has a cell
-    pub turn-whole : (at' hits' : ℕ) (list' : List ℕ) → Stepped Skip t w at list hits at' hits' false list'
-        → Advanced Skip t w s budget before had (min (8 * b + 1) (places t w)) (steps + 1) hits' false list'
-    turn-whole at' hits' list' u = rw (u .mark ∙ ahead-is) at (turn-step at' hits' false list' u)
+  -- A turn of many steps: a step more from a mark 8 a + 1, all of whose places lie below E, by its last byte b. Each has a cell.
+  pub turn-whole : (s budget : ℕ) (before : List ℕ) (had at steps hits : ℕ) (list : List ℕ) → had ≤ length before
+      → Advanced Skip t w s budget before had at steps hits false list → steps < budget → 15 ≤ w .count → (b : ℕ) → b ≡ lastByte w at → 8 * b < places t w
+      → (at' hits' : ℕ) (list' : List ℕ) → Stepped Skip t w at list hits at' hits' false list'
+      → Advanced Skip t w s budget before had (8 * b + 1) (steps + 1) hits' false list'
+  turn-whole s budget before had at steps hits list room made few long b last inside at' hits' list' u =
+      let ahead-is : at' ≡ 8 * b + 1 = u .mark ∙ skip-next-is at long ∙ ap (λ (x : ℕ). min (8 * x + 1) (places t w)) (sym last) ∙ omega arith in
+      let from : at < places t w = omega (arith, reaches-byte w at long) in
+      rw ahead-is at (advanced-step Skip t w s budget before had at steps hits list room made at' hits' false list' from few u)
 
 -- how far the places of a step reach: the index of each fits into the pattern
 pub span-fits : (s m : ℕ) → 15 ≤ m → 8 * ((s + m) / 8 - 1) + 1 - s + 7 ≤ m
@@ -117,6 +113,10 @@ below-end x n m h l = omega arith
 
 pub from-end : (x j n m : ℕ) → m ≤ n → j ≤ x → n - m + 1 ≤ x - j → j ≤ x - (1 + n - m)
 from-end x j n m h l g = omega arith
+
+-- the place of a link, where all places of the step lie below E
+pub place-below : (x j e : ℕ) → 0 < j → x < e → x + 1 - j < e
+place-below x j e h l = omega arith
 
 -- a place below E is a small number
 pub place-fits : (x n m k : ℕ) → x < 1 + n - m → n ≤ k → x ≤ k

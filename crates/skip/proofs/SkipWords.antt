@@ -14,10 +14,12 @@ use lib.Count.{trailingZeros}
 use lib.Dec.{leb, ltb}
 use lib.ListN.{length, getD, set, drop, length-set}
 use lib.Seq.{getD-set-same, drop-set-lt}
-use Rattle.bits.specs.Packed.{weight}
+use Rattle.bits.specs.Packed.{Packed, weight}
 use Rattle.bits.proofs.Weight.{weight-lt, weight-out, weight-and, weight-shr, weight-shl, weight-shl-low, weight-mod, weight-zero, weight-ones}
 use Rattle.rules.specs.declared.Method.the-variants.{Skip}
 use Rattle.rules.specs.Pattern.{Pattern}
+use Rattle.rules.specs.Occurrence.{occurrences}
+use Rattle.matcher.specs.Progress.{Writing}
 use Rattle.matcher.specs.Lined.{meetsLast, Lined, Words, Only}
 use Rattle.matcher.specs.Tables.{lastBelow, showsByte, Prepared}
 use Rattle.skip.specs.SkipChains.{lastShown, shownBy, Flags, Flagging}
@@ -324,6 +326,14 @@ module _ (w : Pattern) (B : ℕ) where
                   let none = before (57 * c + j) (earlier j l n) in
                   ap (λ (z : Bool). cond (ltb j 57 && z) 1 0)
                   (none ∙ sym (shown-less k (w .count - 7 - 57 * c - e - 1) (57 * c + j) (rest-le (w .count) c e k i-below) none))
+
+-- A sweep: the indices below k are still to come, those of the flags f of the block c first, and the occurrences at the others' places
+-- are written.
+pub record Sweeping (t : Packed) (w : Pattern) (b v s : ℕ) (before : List ℕ) (had : ℕ) (list : List ℕ) (c f written : ℕ) : Type 0 where
+  pub k : ℕ
+  pub low : k + s ≤ 8 * b + 1
+  pub flagging : Flagging w v k c f
+  pub writing : Writing before had (occurrences t w s (8 * b + 1 - k)) list written
 
 -- The words of blocks below k are made.
 abbrev pub WordsTo : Pattern → ℕ → List ℕ → Type 0

@@ -319,8 +319,8 @@ pub fn step(
 }
 
 // The step from a mark 8 a + 1 by chains, by the last byte b that all its places contain: the places of b's chain, from its
-// head on, each compared until one is not below the number of places. The mark lies as many places before 8 b + 1 as indices
-// are chained, and the place of a link j is 8 b + 1 - j.
+// head on, each compared. The mark lies as many places before 8 b + 1 as indices are chained, and the place of a link j is
+// 8 b + 1 - j. All of them lie below the number of places.
 fn walk(
     text: &[u8],
     pattern: &[u8],
@@ -333,20 +333,16 @@ fn walk(
 ) -> Found
     requires { ⌜ Ready Method.Skip (textIn (now text) known) (patternIn (now pattern) (now fixed) known) (now cells) ⌝ }
     requires { ⌜ HeadOf (patternIn (now pattern) (now fixed) known) (known .head) (known .mask) ⌝ }
-    requires { ⌜ (chained (known .m) ≤ 8 * b .0) × (8 * b .0 + 8 ≤ known .n) × (had ≤ length (now list)) ⌝ }
+    requires { ⌜ (chained (known .m) ≤ 8 * b .0) × (8 * b .0 < places (textIn (now text) known) (patternIn (now pattern) (now fixed) known)) × (had ≤ length (now list)) ⌝ }
     requires { ⌜ ChainTables (patternIn (now pattern) (now fixed) known) (now cells) ⌝ }
     ensures { λ r. ⌜ Stepped Method.Skip (textIn (now (text .entry)) known) (patternIn (now (pattern .entry)) (now (fixed .entry)) known) (8 * b .0 + 1 - chained (known .m)) (now (list .entry)) had (r .at .0) (r .hits) (r .full) (now (list .exit)) ⌝ }
 {
     let byte = b.0;
     let top = b.place().0 as usize + 1;
-    let end = known.n - known.m + 1;
     let mut next = cells[text[byte] as usize] as usize;
     let mut written = had;
     while next != 0 {
         let p = (top - next) as u32;
-        if end <= p {
-            break;
-        }
         if compare::same(text, pattern, fixed, known, Place(p)) {
             if list.len() <= written {
                 return Found {
@@ -361,7 +357,7 @@ fn walk(
         next = cells[255 + next] as usize;
     }
     Found {
-        at: Place(matcher::cut(top as u32, end)),
+        at: Place(top as u32),
         hits: written,
         full: false,
     }
@@ -380,14 +376,14 @@ fn chain(
 ) -> Found
     requires { ⌜ Ready Method.Skip (textIn (now text) known) (patternIn (now pattern) (now fixed) known) (now cells) ⌝ }
     requires { ⌜ HeadOf (patternIn (now pattern) (now fixed) known) (known .head) (known .mask) ⌝ }
-    requires { ⌜ (chained (known .m) ≤ 8 * b .0) × (8 * b .0 + 8 ≤ known .n) × (had ≤ length (now list)) ⌝ }
+    requires { ⌜ (chained (known .m) ≤ 8 * b .0) × (8 * b .0 < places (textIn (now text) known) (patternIn (now pattern) (now fixed) known)) × (had ≤ length (now list)) ⌝ }
     requires { ⌜ ChainTables (patternIn (now pattern) (now fixed) known) (now cells) ⌝ }
     ensures { λ r. ⌜ Stepped Method.Skip (textIn (now (text .entry)) known) (patternIn (now (pattern .entry)) (now (fixed .entry)) known) (8 * b .0 + 1 - chained (known .m)) (now (list .entry)) had (r .at .0) (r .hits) (r .full) (now (list .exit)) ⌝ }
 {
     let here = b.0;
     if cells[text[here] as usize] == 0 {
         return Found {
-            at: Place(matcher::cut(b.place_at(1).0, known.n - known.m + 1)),
+            at: b.place_at(1),
             hits: had,
             full: false,
         };
@@ -395,7 +391,8 @@ fn chain(
     walk(text, pattern, fixed, known, cells, b, list, had)
 }
 
-// The same by words.
+// The same by words: the flags of a block after those of another, lowest first. The place of a block's flag e is so many
+// bits after `from`, less m.
 fn sweep(
     text: &[u8],
     pattern: &[u8],
@@ -408,46 +405,40 @@ fn sweep(
 ) -> Found
     requires { ⌜ Ready Method.Skip (textIn (now text) known) (patternIn (now pattern) (now fixed) known) (now cells) ⌝ }
     requires { ⌜ HeadOf (patternIn (now pattern) (now fixed) known) (known .head) (known .mask) ⌝ }
-    requires { ⌜ (chained (known .m) ≤ 8 * b .0) × (8 * b .0 + 8 ≤ known .n) × (had ≤ length (now list)) ⌝ }
+    requires { ⌜ (chained (known .m) ≤ 8 * b .0) × (8 * b .0 < places (textIn (now text) known) (patternIn (now pattern) (now fixed) known)) × (had ≤ length (now list)) ⌝ }
     requires { ⌜ WordTables (patternIn (now pattern) (now fixed) known) (now cells) ⌝ }
     ensures { λ r. ⌜ Stepped Method.Skip (textIn (now (text .entry)) known) (patternIn (now (pattern .entry)) (now (fixed .entry)) known) (8 * b .0 + 1 - chained (known .m)) (now (list .entry)) had (r .at .0) (r .hits) (r .full) (now (list .exit)) ⌝ }
 {
     let byte = b.0;
     let v = text[byte];
     let m = known.m;
-    let top = b.place().0 as usize + 1;
-    let end = known.n - m + 1;
-    let mut links = first_flags(pattern, fixed, m, cells, v, indices(m));
+    let mut from = b.place().0 + 8;
+    let mut block = 0u32;
+    let mut f = flags(pattern, fixed, m, cells, v, 0) & (ALL << (m - 7 - indices(m)));
     let mut written = had;
-    while links.first != 0 {
-        let p = (top - links.first as usize) as u32;
-        if end <= p {
-            break;
-        }
-        if compare::same(text, pattern, fixed, known, Place(p)) {
-            if list.len() <= written {
-                return Found {
-                    at: Place(p),
-                    hits: written,
-                    full: true,
-                };
+    while (f != 0) | (57 * block + 65 <= m) {
+        if f == 0 {
+            block += 1;
+            from += 57;
+            f = flags(pattern, fixed, m, cells, v, block);
+        } else {
+            let p = from + u64::trailing_zeros(f) - m;
+            f = f & (f - 1);
+            if compare::same(text, pattern, fixed, known, Place(p)) {
+                if list.len() <= written {
+                    return Found {
+                        at: Place(p),
+                        hits: written,
+                        full: true,
+                    };
+                }
+                list[written] = p;
+                written += 1;
             }
-            list[written] = p;
-            written += 1;
         }
-        links = lowest(
-            pattern,
-            fixed,
-            m,
-            cells,
-            v,
-            (links.first - 1) as u32,
-            links.block,
-            links.left,
-        );
     }
     Found {
-        at: Place(matcher::cut(top as u32, end)),
+        at: b.place_at(1),
         hits: written,
         full: false,
     }
@@ -467,7 +458,7 @@ fn decide(
 ) -> Found
     requires { ⌜ Ready Method.Skip (textIn (now text) known) (patternIn (now pattern) (now fixed) known) (now cells) ⌝ }
     requires { ⌜ HeadOf (patternIn (now pattern) (now fixed) known) (known .head) (known .mask) ⌝ }
-    requires { ⌜ (chained (known .m) ≤ 8 * b .0) × (8 * b .0 + 8 ≤ known .n) × (had ≤ length (now list)) ⌝ }
+    requires { ⌜ (chained (known .m) ≤ 8 * b .0) × (8 * b .0 < places (textIn (now text) known) (patternIn (now pattern) (now fixed) known)) × (had ≤ length (now list)) ⌝ }
     requires { ⌜ kind ≡ getD (now cells) (255 + known .m) 0 ⌝ }
     ensures { λ r. ⌜ Stepped Method.Skip (textIn (now (text .entry)) known) (patternIn (now (pattern .entry)) (now (fixed .entry)) known) (8 * b .0 + 1 - chained (known .m)) (now (list .entry)) had (r .at .0) (r .hits) (r .full) (now (list .exit)) ⌝ }
 {
@@ -478,8 +469,8 @@ fn decide(
 }
 
 // Many steps, each from a mark 8 a + 1: its byte is b, and that of the next mark, 8 b + 1, lies as many bits on as indices
-// are chained. The mark may pass the number of places, and is cut at the end. From any other mark it makes no step: only a
-// call's first mark is one.
+// are chained. From any other mark it makes no step: only a call's first mark is one. Nor does it make the last step, whose
+// places need not all lie below the number of places: that is for `step`.
 pub fn advance(
     text: &[u8],
     pattern: &[u8],
@@ -511,7 +502,7 @@ pub fn advance(
     let mut b = last_byte(s, known.m);
     let mut steps = 0u32;
     let mut hits = had;
-    while at < end && steps < budget {
+    while b.place().0 < end && steps < budget {
         let found = decide(text, pattern, fixed, known, cells, kind, b, list, hits);
         hits = found.hits;
         if found.full {
@@ -528,7 +519,7 @@ pub fn advance(
         b = ByteNo(b.0 + stride);
     }
     Advance {
-        at: Place(matcher::cut(at, end)),
+        at: Place(at),
         steps: steps,
         hits: hits,
         full: false,

@@ -3,21 +3,23 @@
 use borrow.Author.Needs.{needs}
 use Prim.Native.Nat.{ℕ, _+_, _-_, _*_, _≤_, min}
 use mathlib.Core.Path.{_≡_, sym, ap, _∙_}
+use mathlib.Core.List.{[]}
 use native.Mathlib.Omega.{arith}
 use denote.Ref.{now}
 use lib.Dec.{lit<}
 use lib.ListN.{length, getD}
 use Rattle.bits.specs.Packed.{bitsAt}
 use Rattle.bits.proofs.Run.{bits-lt}
+use Rattle.rules.specs.Occurrence.{occurrences}
 use Rattle.rules.specs.Skip.{lastByte}
 use Rattle.matcher.specs.Tables.{lastBelow, inChain, chained}
 use Rattle.matcher.specs.Progress.{textIn, patternIn}
 use Rattle.rules.proofs.Occurrence.{places-some}
 use Rattle.matcher.proofs.Writing.{writing-none}
-use Rattle.skip.proofs.SkipChain.{chained-fits, mark-byte, byte-is, walk-start, walk-end}
+use Rattle.skip.proofs.SkipChain.{chained-fits, mark-byte, byte-is, walk-start}
 use Rattle.skip.proofs.SkipShows.{shown-chain}
-use Rattle.skip.proofs.SkipSizes.{ByteSizes, byte-sizes, end-fits, long-enough}
-use Rattle.skip.proofs.SkipStep.{skip-whole}
+use Rattle.skip.proofs.SkipSizes.{ByteSizes, byte-sizes, long-enough}
+use Rattle.skip.proofs.SkipStep.{skip-all}
 use Rattle.skip.proofs.chain.Statement.{statement}
 use Rattle.skip.proofs.chain.Tie as tie
 
@@ -40,18 +42,9 @@ shared-slice-read-if1-2 c = let s = c .before .before .before .before .before .b
 place-at-requires : tie.Need-place-at-requires
 place-at-requires c κs = let s = c .before .before .before .before .before .before .before .before in (fitting s .small, lit< tt)
 
-sub-cut : tie.Need-sub-cut
-sub-cut c = let s = c .before .before .before .before .before .before .before .before .before .before in s .pre .0 .inside
-
-add-cut : tie.Need-add-cut
-add-cut c = let s = c .before .before .before .before .before .before .before .before .before .before in record { fits = end-fits _ _ _ (s .pre .0) }
-
-cut-requires : tie.Need-cut-requires
-cut-requires c κs = search needs
-
 returns : tie.Need-returns
 returns c =
-    let s = c .before .before .before .before .before .before .before .before .before .before .before in
+    let s = c .before .before .before .before .before .before .before .before .before in
     let a = s .args in
     let t = textIn (now (a .text)) (a .known) in
     let w = patternIn (now (a .pattern)) (now (a .fixed)) (a .known) in
@@ -60,16 +53,15 @@ returns c =
     let p = 8 * b + 1 - chained m in
     let long = long-enough _ _ _ (s .pre .0) in
     let last : lastByte w p ≡ b = mark-byte b m (s .pre .1 .1 .0 .0) long in
-    let byte = c .before .before .before .before .before .shared-slice-known5 .given b .fits in
+    let byte = c .before .before .before .shared-slice-known5 .given b .fits in
     let head : getD (now (a .cells)) (getD (now (a .text)) b 0) 0 ≡ lastBelow (inChain w (bitsAt (now (a .text)) (8 * b) 8)) (chained m)
     = s .pre .1 .1 .1 .head-is _ byte ∙ ap (λ (v : ℕ). lastBelow (inChain w v) (chained m)) (byte-is (now (a .text)) b byte) in
     let shown = shown-chain w (s .pre .1 .1 .1 .all-fixed) (bitsAt (now (a .text)) (8 * b) 8) (bits-lt (now (a .text)) (8 * b) 8) (chained m) (chained-fits m long) in
     let span : 8 * b + 1 - p ≡ chained m = omega arith in
-    let fits : 8 * b + 8 ≤ p + m = omega (arith, chained-fits m long) in
-    let none = walk-start t w b p 0 (omega arith) (omega arith) (rw span (omega (arith, head, shown, c .before .before .before .if1 .taken))) in
-    skip-whole t w p (now (a .list)) (a .had) (now (a .list)) (a .had) (8 * b + 1 - 0) (rw none (writing-none (now (a .list)) (a .had) (s .pre .1 .1 .0 .2))) _ long
-    (rw last (walk-end t w b p 0 fits (omega arith) (omega arith)))
-    (rw last (rw (c .before .before .place-at .ensures) at (c .cut .ensures) ∙ ap (min (8 * b + 1)) (sym (places-some t w (s .pre .0 .inside)))))
+    let none = walk-start t w b p 0 (omega arith) (omega arith) (rw span (omega (arith, head, shown, c .before .if1 .taken))) in
+    let all : 8 * b + 1 - 0 ≡ 8 * b + 1 = omega arith in
+    let nothing : occurrences t w p (8 * b + 1) ≡ [] = rw all at none in
+    rw (c .place-at .ensures) (skip-all t w p (now (a .list)) (a .had) (now (a .list)) (a .had) b last (s .pre .1 .1 .0 .1) long (rw nothing (writing-none (now (a .list)) (a .had) (s .pre .1 .1 .0 .2))))
 
 walk-requires : tie.Need-walk-requires
 walk-requires c κs = let s = c .before .before .before .before .before .before .before .before .before in s .pre
@@ -89,9 +81,6 @@ chain-spec =
     mul-if1
     shared-slice-read-if1-2
     place-at-requires
-    sub-cut
-    add-cut
-    cut-requires
     returns
     walk-requires
     same-length

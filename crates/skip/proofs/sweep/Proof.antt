@@ -1,14 +1,18 @@
--- `skip::sweep` meets its contract. The loop's invariant: the flags left are those of the indices below the link, and the
--- occurrences before its place are written.
+-- `skip::sweep` meets its contract. The loop's invariant: the flags left are those of the indices below a bound, and the
+-- occurrences at the places of the others are written.
 -- Assumes nothing.
 use borrow.Author.Needs.{needs}
-use Prim.Native.Nat.{ℕ, _+_, _-_, _*_, _^_, _≤_, _<_, min}
-use mathlib.Core.Path.{_≡_, sym, ap, _∙_}
-use mathlib.Core.Logic.{⊎-elim}
-use mathlib.Core.Bool.{Bool}
+use borrow.Author.Tests.{eq-eqb, eqb-true, leb-true, leb-false}
+use Prim.Native.Nat.{ℕ, _+_, _-_, _*_, _^_, _≤_, _<_}
+use mathlib.Core.Path.{_≡_, refl, sym, ap, _∙_}
+use mathlib.Core.Bool.{Bool, true, false, true≢false, not, _||_}
+use mathlib.Core.List.{List}
 use native.Mathlib.Nat.{mul-comm}
 use native.Mathlib.Omega.{arith}
 use denote.Ref.{now}
+use lib.Bits.{bitAnd, and-le-l, and-le-r}
+use lib.Count.{trailingZeros, trailing-le}
+use lib.Dec.{lit<, eqb, leb}
 use lib.ListN.{length, getD}
 use Rattle.bits.specs.Packed.{Packed, bitsAt}
 use Rattle.rules.specs.Pattern.{Pattern}
@@ -17,33 +21,44 @@ use Rattle.rules.specs.Skip.{lastByte}
 use Rattle.matcher.specs.Tables.{showsByte, chained}
 use Rattle.skip.specs.SkipChains.{lastShown, Flagging}
 use Rattle.matcher.specs.Progress.{textIn, patternIn, Writing}
-use Rattle.rules.proofs.Occurrence.{places-some}
+use Rattle.rules.proofs.Occurrence.{occurrences-none}
 use Rattle.matcher.proofs.Compared.{compared-place}
 use Rattle.matcher.proofs.Writing.{writing-none, writing-length}
 use Rattle.skip.proofs.SkipBelow.{below-is}
-use Rattle.skip.proofs.SkipChain.{chained-fits, chained-near, mark-byte, byteOf, byte-is, walk-start, walk-by, walk-found, walk-end}
-use Rattle.skip.proofs.SkipSizes.{ByteSizes, byte-sizes, end-fits, long-enough}
-use Rattle.skip.proofs.SkipStep.{below-top, place-fits, below-end, from-end, written-more, skip-full, skip-whole}
+use Rattle.skip.proofs.SkipChain.{chained-fits, chained-near, mark-byte, byteOf, byte-is, walk-by, walk-found, sweep-gap}
+use Rattle.skip.proofs.SkipSizes.{ByteSizes, byte-sizes, long-enough}
+use Rattle.skip.proofs.SkipStep.{below-top, place-fits, place-below, written-more, skip-full, skip-all}
+use Rattle.skip.proofs.SkipWords.{Sweeping, flags-cut, flagging-more, flagging-end, low-fits, lowest-is, flagging-rest}
 use Rattle.skip.proofs.sweep.Statement.{statement}
 use Rattle.skip.proofs.sweep.Tie as tie
 
 abbrev Inv-loop : tie.InvT-loop
-Inv-loop text pattern fixed known cells list₀ had byte v m top end links₀ written₀ list links written =
-    (links .first + (8 * byte + 1 - chained (known .m)) ≤ 8 * byte + 1)
-    × (0 < links .first → Flagging (patternIn pattern fixed known) v (links .first - 1) (links .block) (links .left))
-    × Writing list₀ had (occurrences (textIn text known) (patternIn pattern fixed known) (8 * byte + 1 - chained (known .m)) (8 * byte + 1 - links .first)) list written
+Inv-loop text pattern fixed known cells b list₀ had byte v m from₀ block₀ f₀ written₀ list from block f written =
+    (f < 2 ^ 64)
+    × (from ≡ 8 * byte + 8 + 57 * block)
+    × Sweeping (textIn text known) (patternIn pattern fixed known) byte v (8 * byte + 1 - chained (known .m)) list₀ had list block f written
 
 abbrev μ-loop : tie.MeasureT-loop
-μ-loop text pattern fixed known cells list₀ had byte v m top end links₀ written₀ list links written = links .first
+μ-loop text pattern fixed known cells b list₀ had byte v m from₀ block₀ f₀ written₀ list from block f written = (known .m - block) * 2 ^ 64 + f
 
-some : {j : ℕ} → (j ≡ 0 → ⊥) → 0 < j
-some h = omega arith
+-- flags that are cut off are as few bits as before
+and-small : (x y : ℕ) → x < 2 ^ 64 → bitAnd x y < 2 ^ 64
+and-small x y h = omega (arith, and-le-l x y)
 
-part-le : (j p x : ℕ) → j + p ≤ x → j ≤ x
-part-le j p x h = omega arith
+-- another block, or fewer flags
+next-block : (m b f g : ℕ) → b < m → g < 2 ^ 64 → (m - (b + 1)) * 2 ^ 64 + g < (m - b) * 2 ^ 64 + f
+next-block m b f g h l = omega arith
 
-rest-le : (j p x : ℕ) → j + p ≤ x → p ≤ x - j
-rest-le j p x h = omega arith
+-- the loop's test
+more : (f x m : ℕ) → (not (eqb f 0) || leb x m) ≡ true → f ≡ 0 → x ≤ m
+more f x m h e = leb-true x m (rw (eq-eqb f 0 e) at h)
+
+no-more : (f x m : ℕ) → (not (eqb f 0) || leb x m) ≡ false → (f ≡ 0) × (m < x)
+no-more f x m h = go (eqb f 0) refl h
+  where
+    go : (z : Bool) → eqb f 0 ≡ z → (not z || leb x m) ≡ false → (f ≡ 0) × (m < x)
+    go true e q = (eqb-true f 0 e, leb-false x m q)
+    go false e q = absurd (true≢false q)
 
 -- the text and the pattern
 abbrev text : tie.Start Inv-loop μ-loop → Packed
@@ -77,27 +92,99 @@ value : (c : tie.After-shared-slice-known5 Inv-loop μ-loop)
     getD (now (a .text)) (a .b .0) 0 ≡ bitsAt (now (a .text)) (8 * a .b .0) 8
 value c = let a = c .before .before .before .before .before .before .args in byte-is (now (a .text)) (a .b .0) (c .shared-slice-known5 .given (a .b .0) .fits)
 
--- the link's index is one of the pattern's
-index : (c : tie.At-loop Inv-loop μ-loop) → c .loop .links .first + 7 ≤ c .before .before .before .before .before .before .before .before .before .before .before .before .args .known .m
-index c =
-    let s = c .before .before .before .before .before .before .before .before .before .before .before .before in
+-- so many indices are still to come that each is one of the pattern's
+index : (s : tie.Start Inv-loop μ-loop) (k : ℕ) → k + mark s ≤ 8 * s .args .b .0 + 1 → k + 7 ≤ s .args .known .m
+index s k h =
     let m = s .args .known .m in
-    within (c .loop .links .first) (chained m) (8 * s .args .b .0) m (c .loop .inv .0) (s .pre .1 .1 .0 .0) (chained-fits m (long s))
+    within k (chained m) (8 * s .args .b .0) m h (s .pre .1 .1 .0 .0) (chained-fits m (long s))
   where
     within : (j k x m : ℕ) → j + (x + 1 - k) ≤ x + 1 → k ≤ x → k + 7 ≤ m → j + 7 ≤ m
     within j k x m h g l = omega arith
 
--- its place is below E
-inside : (c : tie.Else2 Inv-loop μ-loop)
-    → let a = c .before .before .before .before .before .before .before .before .before .before .before .before .before .before .before .args in
-    8 * a .b .0 + 1 - c .before .before .before .loop .links .first < 1 + a .known .n - a .known .m
-inside c = below-end _ _ _ (c .before .before .before .before .before .before .before .before .before .before .before .before .before .before .before .pre .0 .inside) (rw (first-bit (c .before .before .before .before .before .before .before .before)) at (c .if2 .left))
+-- The lowest flag: its index, one more than which is j, and its place.
+module _ (c : tie.Else1 Inv-loop μ-loop) where
+  abbrev start : tie.Start Inv-loop μ-loop
+  start = c .before .before .before .before .before .before .before .before .before .before .before .before .before
+
+  abbrev f : ℕ
+  f = c .before .before .loop .f
+
+  abbrev block : ℕ
+  block = c .before .before .loop .block
+
+  abbrev v : ℕ
+  v = getD (now (start .args .text)) (start .args .b .0) 0
+
+  abbrev u : Sweeping (text start) (pattern start) (start .args .b .0) v (mark start) (now (start .args .list)) (start .args .had) (c .before .before .loop .list) block f (c .before .before .loop .written)
+  u = c .before .before .loop .inv .2
+
+  abbrev j : ℕ
+  j = start .args .known .m - 7 - 57 * block - trailingZeros 64 f
+
+  fits : 57 * block + trailingZeros 64 f + 8 ≤ start .args .known .m
+  fits = low-fits (pattern start) v (u .k) block f (u .flagging) (c .before .before .loop .inv .0) (c .if1 .left)
+
+  last-is : j ≡ lastShown (pattern start) v (u .k)
+  last-is = lowest-is (pattern start) v (u .k) block f (u .flagging) (c .before .before .loop .inv .0) (c .if1 .left) (index start (u .k) (u .low))
+
+  up : j ≤ u .k
+  up = omega (arith, last-is, below-is (showsByte (pattern start) v) (u .k) .within)
+
+  low : j + mark start ≤ 8 * start .args .b .0 + 1
+  low = omega (arith, up, u .low)
+
+  -- no occurrence lies before its place that is not written
+  gap : occurrences (text start) (pattern start) (mark start) (8 * start .args .b .0 + 1 - j) ≡ occurrences (text start) (pattern start) (mark start) (8 * start .args .b .0 + 1 - u .k)
+  gap =
+      let shown : lastShown (pattern start) v (u .k) ≤ j = omega (arith, last-is) in
+      sweep-gap (text start) (pattern start) (start .args .b .0) (mark start) (u .k) j (covers start) (u .low) (rw (value (c .before .before .before .before .before .before .before)) at shown) up
+
+  writing : Writing (now (start .args .list)) (start .args .had) (occurrences (text start) (pattern start) (mark start) (8 * start .args .b .0 + 1 - j)) (c .before .before .loop .list) (c .before .before .loop .written)
+  writing = rw gap (u .writing)
+
+  -- as the code has it
+  place-is : c .before .before .loop .from + trailingZeros 64 f - start .args .known .m ≡ 8 * start .args .b .0 + 1 - j
+  place-is =
+      ap (λ (x : ℕ). x + trailingZeros 64 f - start .args .known .m) (c .before .before .loop .inv .1)
+      ∙ same (8 * start .args .b .0) (start .args .known .m) (57 * block) (trailingZeros 64 f) fits (below j (mark start) (8 * start .args .b .0 + 1) low)
+    where
+      same : (x m d e : ℕ) → d + e + 8 ≤ m → m - 7 - d - e ≤ x + 1 → x + 8 + d + e - m ≡ x + 1 - (m - 7 - d - e)
+      same x m d e h l = omega arith
+
+      below : (j p x : ℕ) → j + p ≤ x → j ≤ x
+      below j p x h = omega arith
+
+  some : 0 < j
+  some = omega (arith, fits)
+
+  inside : 8 * start .args .b .0 + 1 - j < 1 + start .args .known .n - start .args .known .m
+  inside = place-below _ _ _ some (start .pre .1 .1 .0 .1)
 
 -- the comparison's answer
 stands : (c : tie.After-same Inv-loop μ-loop) (x : Bool) → c .same .result ≡ x
-    → let s = c .before .before .before .before .before .before .before .before .before .before .before .before .before .before .before .before in
-    occurs (text s) (pattern s) (8 * s .args .b .0 + 1 - c .before .before .before .before .loop .links .first) ≡ x
-stands c x e = compared-place _ _ _ _ _ x (rw (first-bit (c .before .before .before .before .before .before .before .before .before)) at (c .same .ensures)) e (inside (c .before))
+    → let s = c .before .before .before .before .before .before .before .before .before .before .before .before .before .before in
+    occurs (text s) (pattern s) (8 * s .args .b .0 + 1 - j (c .before)) ≡ x
+stands c x e = compared-place _ _ _ _ _ x (rw (place-is (c .before)) at (c .same .ensures)) e (inside (c .before))
+
+-- the flags after it
+rest : (c : tie.After-same Inv-loop μ-loop) (list : List ℕ) (written : ℕ)
+    → let s = c .before .before .before .before .before .before .before .before .before .before .before .before .before .before in
+    Writing (now (s .args .list)) (s .args .had) (occurrences (text s) (pattern s) (mark s) (8 * s .args .b .0 + 1 - (j (c .before) - 1))) list written
+    → Sweeping (text s) (pattern s) (s .args .b .0) (v (c .before)) (mark s) (now (s .args .list)) (s .args .had) list (block (c .before)) (bitAnd (f (c .before)) (f (c .before) - 1)) written
+rest c list written w =
+    record {
+      k = j (c .before) - 1;
+      low = omega (arith, low (c .before));
+      flagging = flagging-rest (pattern (start (c .before))) (v (c .before)) (u (c .before) .k) (block (c .before)) (f (c .before)) (u (c .before) .flagging) (c .before .before .before .loop .inv .0) (c .before .if1 .left);
+      writing = w;
+    }
+
+-- they are fewer
+fewer : (c : tie.Else1 Inv-loop μ-loop) → bitAnd (f c) (f c - 1) < f c
+fewer c = less (f c) _ (c .if1 .left) (and-le-r (f c) (f c - 1))
+  where
+    less : (x y : ℕ) → (x ≡ 0 → ⊥) → y ≤ x - 1 → y < x
+    less x y n l = omega arith
 
 shared-slice-read-v : tie.Need-shared-slice-read-v Inv-loop μ-loop
 shared-slice-read-v c = fitting (c .before .before .before .before .before .before) .there
@@ -105,162 +192,189 @@ shared-slice-read-v c = fitting (c .before .before .before .before .before .befo
 place-requires : tie.Need-place-requires Inv-loop μ-loop
 place-requires c κs = fitting (c .before .before .before .before .before .before) .small
 
-cast-top : tie.Need-cast-top Inv-loop μ-loop
-cast-top c = record { fits = rw (first-bit (c .before)) (fitting (c .before .before .before .before .before .before .before .before) .first) }
+add-from : tie.Need-add-from Inv-loop μ-loop
+add-from c = omega (arith, first-bit (c .before), fitting (c .before .before .before .before .before .before .before .before) .small)
 
-add-top : tie.Need-add-top Inv-loop μ-loop
-add-top c = record { fits = rw (first-bit (c .before)) (fitting (c .before .before .before .before .before .before .before .before) .top-wide) }
+flags-requires : tie.Need-flags-requires Inv-loop μ-loop
+flags-requires c κs = let s = c .before .before .before .before .before .before .before .before in (s .pre .1 .1 .1, (s .pre .0 .room, s .pre .0 .pattern .few-bits, omega (arith, long s)))
 
-sub-end : tie.Need-sub-end Inv-loop μ-loop
-sub-end c = c .before .before .before .before .before .before .before .before .before .pre .0 .inside
-
-add-end : tie.Need-add-end Inv-loop μ-loop
-add-end c = record { fits = end-fits _ _ _ (c .before .before .before .before .before .before .before .before .before .pre .0) }
+sub-f : tie.Need-sub-f Inv-loop μ-loop
+sub-f c = omega (arith, long (c .before .before .before .before .before .before .before .before .before))
 
 indices-requires : tie.Need-indices-requires Inv-loop μ-loop
 indices-requires c κs = let s = c .before .before .before .before .before .before .before .before .before in (long s, s .pre .0 .pattern .few-bits)
 
-first-flags-requires : tie.Need-first-flags-requires Inv-loop μ-loop
-first-flags-requires c κs =
-    let s = c .before .before .before .before .before .before .before .before .before .before in
-    let m = s .args .known .m in
-    (s .pre .1 .1 .1, (s .pre .0 .room, long s, s .pre .0 .pattern .few-bits, rw (c .indices .ensures) (chained-fits m (long s)), rw (c .indices .ensures) (chained-near m (long s))))
+sub-f-2 : tie.Need-sub-f-2 Inv-loop μ-loop
+sub-f-2 c = let s = c .before .before .before .before .before .before .before .before .before .before in omega (arith, c .indices .ensures, chained-fits (s .args .known .m) (long s))
+
+cast-f : tie.Need-cast-f Inv-loop μ-loop
+cast-f c = let s = c .before .before .before .before .before .before .before .before .before .before in omega (arith, c .indices .ensures, chained-near (s .args .known .m) (long s))
+
+shl-f : tie.Need-shl-f Inv-loop μ-loop
+shl-f c = let s = c .before .before .before .before .before .before .before .before .before .before in omega (arith, c .indices .ensures, chained-near (s .args .known .m) (long s))
 
 loop-holds : tie.Need-loop-holds Inv-loop μ-loop
 loop-holds c =
-    let s = c .before .before .before .before .before .before .before .before .before .before .before in
+    let s = c .before .before .before .before .before .before .before .before .before .before in
     let a = s .args in
-    let k = chained (a .known .m) in
-    let e = rw (c .before .indices .ensures) at (c .first-flags .ensures .0) in
-    let near = e-within (c .first-flags .result .first) k (8 * a .b .0) (omega (arith, e, below-is (showsByte (pattern s) (getD (now (a .text)) (a .b .0) 0)) k .within)) (s .pre .1 .1 .0 .0) in
-    let span : 8 * a .b .0 + 1 - mark s ≡ k = omega (arith, s .pre .1 .1 .0 .0) in
-    let first : lastShown (pattern s) (getD (now (a .text)) (a .b .0) 0) k ≤ c .first-flags .result .first = omega (arith, e) in
-    let shown : lastShown (pattern s) (byteOf (text s) (pattern s) (a .b .0)) k ≤ c .first-flags .result .first = rw (value (c .before .before .before .before .before)) at first in
-    let none = walk-start (text s) (pattern s) (a .b .0) (mark s) (c .first-flags .result .first) (covers s) near (rw span shown) in
-    (near, c .first-flags .ensures .1, rw none (writing-none (now (a .list)) (a .had) (s .pre .1 .1 .0 .2)))
-  where
-    e-within : (j k x : ℕ) → j ≤ k → k ≤ x → j + (x + 1 - k) ≤ x + 1
-    e-within j k x h g = omega arith
+    let m = a .known .m in
+    let k = chained m in
+    let w = getD (now (a .text)) (a .b .0) 0 in
+    let fits : c .before .flags .result < 2 ^ 64 = search needs in (
+      and-small (c .before .flags .result) _ fits,
+      omega (arith, first-bit (c .before .before .before)),
+      record {
+        k = k;
+        low = omega (arith, s .pre .1 .1 .0 .0);
+        flagging = record {
+          inside = omega (arith, long s);
+          near = omega (arith, chained-near m (long s));
+          none = λ d l. absurd (omega arith);
+          flags = rw (c .indices .ensures) (flags-cut (pattern s) w k (57 * 0) _ refl (c .before .flags .ensures) (chained-fits m (long s)) (chained-near m (long s)));
+        };
+        writing = rw (occurrences-none (text s) (pattern s) (mark s) (mark s) (λ p l u. absurd (omega arith))) (writing-none (now (a .list)) (a .had) (s .pre .1 .1 .0 .2));
+      },
+    )
 
-sub-p : tie.Need-sub-p Inv-loop μ-loop
-sub-p c = rw (first-bit (c .before .before .before .before .before .before .before)) (part-le _ _ _ (c .before .before .loop .inv .0))
+mul-loop : tie.Need-mul-loop Inv-loop μ-loop
+mul-loop c = omega (arith, c .loop .inv .2 .flagging .inside, c .before .before .before .before .before .before .before .before .before .before .before .pre .0 .pattern .few-bits)
 
-cast-p : tie.Need-cast-p Inv-loop μ-loop
-cast-p c = record { fits = rw (first-bit (c .before .before .before .before .before .before .before)) (fitting (c .before .before .before .before .before .before .before .before .before .before .before .before .before .before) .less _) }
+add-loop : tie.Need-add-loop Inv-loop μ-loop
+add-loop c = omega (arith, c .loop .inv .2 .flagging .inside, c .before .before .before .before .before .before .before .before .before .before .before .pre .0 .pattern .few-bits)
 
-same-requires : tie.Need-same-requires Inv-loop μ-loop
-same-requires c κs =
-    let s = c .before .before .before .before .before .before .before .before .before .before .before .before .before .before .before in
-    let g = s .pre .0 .pattern in
-    ((g .some-bits, g .few-bits, rw (first-bit (c .before .before .before .before .before .before .before .before)) (place-fits _ (s .args .known .n) (s .args .known .m) (2 ^ 30) (inside c) (s .pre .0 .few-bits))), s .pre .1 .0)
+add-block : tie.Need-add-block Inv-loop μ-loop
+add-block c = omega (arith, c .before .before .loop .inv .2 .flagging .inside, c .before .before .before .before .before .before .before .before .before .before .before .before .before .pre .0 .pattern .few-bits)
 
-same-length : tie.Need-same-length Inv-loop μ-loop
-same-length c = writing-length _ _ _ _ _ (c .before .before .before .before .before .before .loop .inv .2)
+add-from-2 : tie.Need-add-from-2 Inv-loop μ-loop
+add-from-2 c = omega (arith, c .before .before .loop .inv .1, c .before .before .loop .inv .2 .flagging .inside, c .before .before .before .before .before .before .before .before .before .before .before .before .before .pre .0 .pattern .few-bits, fitting (c .before .before .before .before .before .before .before .before .before .before .before .before .before) .small)
 
-returns : tie.Need-returns Inv-loop μ-loop
-returns c =
-    let l = c .before .before .before .before .before .before .loop in
-    let s = c .before .before .before .before .before .before .before .before .before .before .before .before .before .before .before .before .before .before in
-    let a = s .args in
-    let b = a .b .0 in
-    let last : lastByte (pattern s) (mark s) ≡ b = mark-byte b (a .known .m) (s .pre .1 .1 .0 .0) (long s) in
-    let low = l .inv .0 in
-    let found = stands (c .before .before) _ (c .before .if3 .taken) in
-    let place = ap (λ (x : ℕ). x + 1 - l .links .first) (first-bit (c .before .before .before .before .before .before .before .before .before .before .before)) in
-    rw (sym place) at
-    (skip-full (text s) (pattern s) (mark s) (now (a .list)) (a .had) (l .list) (l .written) (8 * b + 1 - l .links .first) (l .inv .2) (long s) (s .pre .1 .1 .0 .2)
-    (rest-le _ _ _ low) (rw last (below-top (8 * b + 1) (l .links .first) (some (c .before .before .before .before .if1 .taken)) (part-le _ _ _ low))) found (c .if4 .taken))
+-- there is another block
+another : (c : tie.Then1 Inv-loop μ-loop) → 57 * (c .before .before .loop .block + 1) + 8 ≤ c .before .before .before .before .before .before .before .before .before .before .before .before .before .args .known .m
+another c =
+    let l = c .before .before .loop in
+    omega (arith, more (l .f) (57 * l .block + 65) (c .before .before .before .before .before .before .before .before .before .before .before .before .before .args .known .m) (c .before .loop-test .taken) (c .if1 .taken))
 
-mul-list : tie.Need-mul-list Inv-loop μ-loop
-mul-list c =
-    let size = writing-length _ _ _ _ _ (c .before .before .before .before .before .before .loop .inv .2) in
-    omega (arith, c .before .before .before .before .before .before .before .before .before .before .before .before .before .before .before .before .before .before .good)
-
-slice-write-list : tie.Need-slice-write-list Inv-loop μ-loop
-slice-write-list c = c .if4 .left
-
-add-written : tie.Need-add-written Inv-loop μ-loop
-add-written c =
-    let size = writing-length _ _ _ _ _ (c .before .before .before .before .before .before .loop .inv .2) in
-    omega (arith, c .before .before .before .before .before .before .before .before .before .before .before .before .before .before .before .before .before .before .good)
-
-sub-lowest : tie.Need-sub-lowest Inv-loop μ-loop
-sub-lowest c = some (c .before .before .before .before .if1 .taken)
-
-cast-lowest : tie.Need-cast-lowest Inv-loop μ-loop
-cast-lowest c = omega (arith, index (c .before .before .before .before .before .before), c .before .before .before .before .before .before .before .before .before .before .before .before .before .before .before .before .before .before .pre .0 .pattern .few-bits)
-
-lowest-requires : tie.Need-lowest-requires Inv-loop μ-loop
-lowest-requires c κs =
-    let l = c .before .before .before .before .before .before .loop in
-    let s = c .before .before .before .before .before .before .before .before .before .before .before .before .before .before .before .before .before .before in
-    (s .pre .1 .1 .1, ((s .pre .0 .room, s .pre .0 .pattern .few-bits, less (l .links .first) (s .args .known .m) (index (c .before .before .before .before .before .before))), l .inv .1 (some (c .before .before .before .before .if1 .taken))))
-  where
-    less : (j m : ℕ) → j + 7 ≤ m → j - 1 + 7 ≤ m
-    less j m h = omega arith
-
--- the link after it lies below it
-fewer : (c : tie.After-lowest Inv-loop μ-loop) → c .lowest .result .first < c .before .before .before .before .before .before .before .loop .links .first
-fewer c =
-    let l = c .before .before .before .before .before .before .before .loop in
-    let s = c .before .before .before .before .before .before .before .before .before .before .before .before .before .before .before .before .before .before .before in
-    lower (l .links .first) _ (some (c .before .before .before .before .before .if1 .taken)) (c .lowest .ensures .0) (below-is (showsByte (pattern s) (getD (now (s .args .text)) (s .args .b .0) 0)) (l .links .first - 1) .within)
-  where
-    lower : (j i : ℕ) {x : ℕ} → 0 < j → i ≡ x → x ≤ j - 1 → i < j
-    lower j i h e l = omega arith
+flags-requires-2 : tie.Need-flags-requires-2 Inv-loop μ-loop
+flags-requires-2 c κs = let s = c .before .before .before .before .before .before .before .before .before .before .before .before .before in (s .pre .1 .1 .1, (s .pre .0 .room, s .pre .0 .pattern .few-bits, another c))
 
 loop-less : tie.Need-loop-less Inv-loop μ-loop
-loop-less c = fewer c
+loop-less c =
+    let l = c .before .before .before .loop in
+    next-block (c .before .before .before .before .before .before .before .before .before .before .before .before .before .before .args .known .m) (l .block) (l .f) (c .flags2 .result) (omega (arith, l .inv .2 .flagging .inside)) (search needs)
 
 loop-again : tie.Need-loop-again Inv-loop μ-loop
 loop-again c =
-    let l = c .before .before .before .before .before .before .before .loop in
-    let s = c .before .before .before .before .before .before .before .before .before .before .before .before .before .before .before .before .before .before .before in
-    let a = s .args in
-    let b = a .b .0 in
-    let j = l .links .first in
-    let next : lastShown (pattern s) (getD (now (a .text)) b 0) (j - 1) ≤ c .lowest .result .first = omega (arith, c .lowest .ensures .0) in
-    let link : lastShown (pattern s) (byteOf (text s) (pattern s) b) (j - 1) ≤ c .lowest .result .first = rw (value (c .before .before .before .before .before .before .before .before .before .before .before .before .before)) at next in (
-      omega (arith, fewer c, l .inv .0),
-      c .lowest .ensures .1,
-      ⊎-elim
-          (λ u. rw (u .2, u .3, first-bit (c .before .before .before .before .before .before .before .before .before .before .before .before))
-          (written-more (text s) (pattern s) (mark s) (now (a .list)) (a .had) (l .list) (l .written) (8 * b + 1 - j) (l .inv .2) _
-          (walk-found (text s) (pattern s) b (mark s) j (covers s) (l .inv .0) _ (fewer c) link (stands (c .before .before .before) _ (u .0 .taken))) (u .1 .left)))
-          (λ u. rw (u .1, u .2, walk-by (text s) (pattern s) b (mark s) j (covers s) (l .inv .0) _ (fewer c) link (stands (c .before .before .before) _ (u .0 .left))) (l .inv .2))
-          (c .before .before .if3 .came),
+    let l = c .before .before .before .loop in
+    let s = c .before .before .before .before .before .before .before .before .before .before .before .before .before .before in
+    let u = l .inv .2 in (
+      search needs,
+      omega (arith, l .inv .1),
+      record {
+        k = u .k;
+        low = u .low;
+        flagging = flagging-more (pattern s) (getD (now (s .args .text)) (s .args .b .0) 0) (u .k) (l .block) (l .f) (u .flagging) (c .before .if1 .taken) _ (another (c .before)) (c .flags2 .ensures);
+        writing = u .writing;
+      },
     )
 
-cast-cut : tie.Need-cast-cut Inv-loop μ-loop
-cast-cut c = record { fits = rw (first-bit (c .before .before .before .before .before .before .before)) (fitting (c .before .before .before .before .before .before .before .before .before .before .before .before .before .before) .top) }
+add-p : tie.Need-add-p Inv-loop μ-loop
+add-p c = omega (arith, trailing-le 64 (f c), c .before .before .loop .inv .1, fits c, start c .pre .0 .pattern .few-bits, fitting (start c) .small)
 
-cut-requires : tie.Need-cut-requires Inv-loop μ-loop
-cut-requires c κs = search needs
+sub-p : tie.Need-sub-p Inv-loop μ-loop
+sub-p c = omega (arith, c .before .before .loop .inv .1, low c, fits c)
 
-same-length-2 : tie.Need-same-length-2 Inv-loop μ-loop
-same-length-2 c = writing-length _ _ _ _ _ (c .before .before .before .loop .inv .2)
+sub-f-3 : tie.Need-sub-f-3 Inv-loop μ-loop
+sub-f-3 c = omega (arith, c .if1 .left)
 
--- the links that are left are of places from E on
-outside : (c : tie.Joined1 Inv-loop μ-loop)
-    → let a = c .before .before .before .before .before .before .before .before .before .before .before .before .before .before .args in
-    c .before .before .loop .links .first ≤ 8 * a .b .0 + 1 - (1 + a .known .n - a .known .m)
-outside c =
-    let s = c .before .before .before .before .before .before .before .before .before .before .before .before .before .before in
-    ⊎-elim (λ u. none (u .left)) (λ u. from-end _ _ _ _ (s .pre .0 .inside) (part-le _ _ _ (c .before .before .loop .inv .0)) (rw (first-bit (c .before .before .before .before .before .before .before)) at (u .1 .taken))) (c .if1 .came)
-  where
-    none : {j x : ℕ} → j ≡ 0 → j ≤ x
-    none e = omega arith
+same-requires : tie.Need-same-requires Inv-loop μ-loop
+same-requires c κs =
+    let s = start c in
+    let g = s .pre .0 .pattern in
+    ((g .some-bits, g .few-bits, rw (place-is c) (place-fits _ (s .args .known .n) (s .args .known .m) (2 ^ 30) (inside c) (s .pre .0 .few-bits))), s .pre .1 .0)
 
-returns-2 : tie.Need-returns-2 Inv-loop μ-loop
-returns-2 c =
-    let l = c .before .before .before .loop in
-    let s = c .before .before .before .before .before .before .before .before .before .before .before .before .before .before .before in
+same-length : tie.Need-same-length Inv-loop μ-loop
+same-length c = writing-length _ _ _ _ _ (c .before .before .before .before .before .loop .inv .2 .writing)
+
+returns : tie.Need-returns Inv-loop μ-loop
+returns c =
+    let e = c .before .before .before in
+    let s = start e in
     let a = s .args in
     let b = a .b .0 in
     let last : lastByte (pattern s) (mark s) ≡ b = mark-byte b (a .known .m) (s .pre .1 .1 .0 .0) (long s) in
-    skip-whole (text s) (pattern s) (mark s) (now (a .list)) (a .had) (l .list) (l .written) (8 * b + 1 - l .links .first) (l .inv .2) _ (long s)
-    (rw last (walk-end (text s) (pattern s) b (mark s) (l .links .first) (covers s) (l .inv .0) (outside (c .before))))
-    (rw last (rw (first-bit (c .before .before .before .before .before .before .before .before)) at (c .cut .ensures) ∙ ap (min (8 * b + 1)) (sym (places-some (text s) (pattern s) (s .pre .0 .inside)))))
+    rw (place-is e)
+    (skip-full (text s) (pattern s) (mark s) (now (a .list)) (a .had) (c .before .before .before .before .before .loop .list) (c .before .before .before .before .before .loop .written) (8 * b + 1 - j e) (writing e) (long s) (s .pre .1 .1 .0 .2)
+    (omega (arith, low e)) (rw last (below-top (8 * b + 1) (j e) (some e) (omega (arith, low e)))) (stands (c .before .before) _ (c .before .if2 .taken)) (c .if3 .taken))
+
+mul-list : tie.Need-mul-list Inv-loop μ-loop
+mul-list c =
+    let size = writing-length _ _ _ _ _ (c .before .before .before .before .before .loop .inv .2 .writing) in
+    omega (arith, c .before .before .before .before .before .before .before .before .before .before .before .before .before .before .before .before .good)
+
+slice-write-list : tie.Need-slice-write-list Inv-loop μ-loop
+slice-write-list c = c .if3 .left
+
+add-written : tie.Need-add-written Inv-loop μ-loop
+add-written c =
+    let size = writing-length _ _ _ _ _ (c .before .before .before .before .before .loop .inv .2 .writing) in
+    omega (arith, c .before .before .before .before .before .before .before .before .before .before .before .before .before .before .before .before .good)
+
+loop-less-2 : tie.Need-loop-less-2 Inv-loop μ-loop
+loop-less-2 c = omega (arith, fewer (c .before .before .before))
+
+loop-again-2 : tie.Need-loop-again-2 Inv-loop μ-loop
+loop-again-2 c =
+    let e = c .before .before .before in
+    let s = start e in
+    let a = s .args in
+    let b = a .b .0 in (
+      omega (arith, fewer e, c .before .before .before .before .before .loop .inv .0),
+      c .before .before .before .before .before .loop .inv .1,
+      rest (c .before .before) _ _
+          (rw (place-is e)
+          (written-more (text s) (pattern s) (mark s) (now (a .list)) (a .had) (c .before .before .before .before .before .loop .list) (c .before .before .before .before .before .loop .written) (8 * b + 1 - j e) (writing e) _
+          (walk-found (text s) (pattern s) b (mark s) (j e) (covers s) (low e) (j e - 1) (omega (arith, some e)) (below-is (showsByte (pattern s) (byteOf (text s) (pattern s) b)) (j e - 1) .within)
+          (stands (c .before .before) _ (c .before .if2 .taken))) (c .if3 .left))),
+    )
+
+loop-less-3 : tie.Need-loop-less-3 Inv-loop μ-loop
+loop-less-3 c = omega (arith, fewer (c .before .before))
+
+loop-again-3 : tie.Need-loop-again-3 Inv-loop μ-loop
+loop-again-3 c =
+    let e = c .before .before in
+    let s = start e in
+    let b = s .args .b .0 in (
+      omega (arith, fewer e, c .before .before .before .before .loop .inv .0),
+      c .before .before .before .before .loop .inv .1,
+      rest (c .before) _ _
+          (rw (walk-by (text s) (pattern s) b (mark s) (j e) (covers s) (low e) (j e - 1) (omega (arith, some e)) (below-is (showsByte (pattern s) (byteOf (text s) (pattern s) b)) (j e - 1) .within)
+          (stands (c .before) _ (c .if2 .left))) (writing e)),
+    )
+
+place-at-requires : tie.Need-place-at-requires Inv-loop μ-loop
+place-at-requires c κs = (fitting (c .before .before .before .before .before .before .before .before .before .before .before .before) .small, lit< tt)
+
+same-length-2 : tie.Need-same-length-2 Inv-loop μ-loop
+same-length-2 c = writing-length _ _ _ _ _ (c .before .before .loop .inv .2 .writing)
+
+returns-2 : tie.Need-returns-2 Inv-loop μ-loop
+returns-2 c =
+    let l = c .before .before .loop in
+    let s = c .before .before .before .before .before .before .before .before .before .before .before .before .before in
+    let a = s .args in
+    let b = a .b .0 in
+    let u = l .inv .2 in
+    let w = getD (now (a .text)) b 0 in
+    let last : lastByte (pattern s) (mark s) ≡ b = mark-byte b (a .known .m) (s .pre .1 .1 .0 .0) (long s) in
+    let z = no-more (l .f) (57 * l .block + 65) (a .known .m) (c .before .loop-test .left) in
+    let none : lastShown (pattern s) w (u .k) ≤ 0 = omega (arith, flagging-end (pattern s) w (u .k) (l .block) (l .f) (u .flagging) (z .0) (omega arith) (index s (u .k) (u .low))) in
+    let gap = sweep-gap (text s) (pattern s) b (mark s) (u .k) 0 (covers s) (u .low) (rw (value (c .before .before .before .before .before .before .before)) at none) (omega arith) in
+    let all : occurrences (text s) (pattern s) (mark s) (8 * b + 1) ≡ occurrences (text s) (pattern s) (mark s) (8 * b + 1 - u .k) = ap (occurrences (text s) (pattern s) (mark s)) (whole (8 * b + 1)) ∙ gap in
+    rw (c .place-at .ensures) (skip-all (text s) (pattern s) (mark s) (now (a .list)) (a .had) (l .list) (l .written) b last (s .pre .1 .1 .0 .1) (long s) (rw all (u .writing)))
+  where
+    whole : (x : ℕ) → x ≡ x - 0
+    whole x = omega arith
 
 pub sweep-spec : {M : Type 1} → statement M
 sweep-spec =
@@ -270,27 +384,34 @@ sweep-spec =
     μ-loop
     shared-slice-read-v
     place-requires
-    cast-top
-    add-top
-    sub-end
-    add-end
+    add-from
+    flags-requires
+    sub-f
     indices-requires
-    first-flags-requires
+    sub-f-2
+    cast-f
+    shl-f
     loop-holds
+    mul-loop
+    add-loop
+    add-block
+    add-from-2
+    flags-requires-2
+    loop-less
+    loop-again
+    add-p
     sub-p
-    cast-p
+    sub-f-3
     same-requires
     same-length
     returns
     mul-list
     slice-write-list
     add-written
-    sub-lowest
-    cast-lowest
-    lowest-requires
-    loop-less
-    loop-again
-    cast-cut
-    cut-requires
+    loop-less-2
+    loop-again-2
+    loop-less-3
+    loop-again-3
+    place-at-requires
     same-length-2
     returns-2)
