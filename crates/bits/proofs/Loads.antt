@@ -4,15 +4,15 @@ use mathlib.Core.Path.{_≡_, sym, _∙_, ap, ap₂}
 use mathlib.Core.List.{List}
 use Prim.Native.Nat.{ℕ, suc, _+_, _-_, _*_, _/_, _%_, _^_, _≤_, _<_}
 use native.Mathlib.Omega.{arith}
-use native.Mathlib.Nat.{zero-add, mul-one, zero-div, div-one, div-add-mod'}
+use native.Mathlib.Nat.{add-zero, zero-add, mul-one, zero-div, div-one, div-add-mod'}
 use native.Mathlib.Decide.{decLe}
 use lib.ListN.{length, getD, List·getD-eq-default}
 use lib.Dec.{lit<, lit≤}
 use lib.Bits.{bitOr, or-shifted, or-zero-r}
-use lib.Pow.{pow-add, low, high, shl-lt, shl-exact, mod-mod-pow}
+use lib.Pow.{pow-pos, pow-add, low, high, shl-lt, shl-exact, mod-mod-pow}
 use Rattle.bits.specs.Packed.{weight, bitAt, bitsAt}
-use Rattle.bits.proofs.Weight.{same-weights}
-use Rattle.bits.proofs.Run.{bits-lt, bits-add, bits-first, bits-last, weight-of-bits, agree→load}
+use Rattle.bits.proofs.Weight.{weight-zero, same-weights}
+use Rattle.bits.proofs.Run.{bit-past, bits-lt, bits-add, bits-first, bits-last, weight-of-bits, agree→load}
 
 -- bit j of byte b
 pub bit-in-byte : (bytes : List ℕ) (b : ℕ) {j : ℕ} → j < 8 → bitAt bytes (b * 8 + j) ≡ weight (getD bytes b 0) (7 - j)
@@ -255,3 +255,17 @@ join-last xs k {x} {b} eb h ex = ap (bitOr x) unmoved ∙ join-byte xs k 0 eb h 
   where
     unmoved : b ≡ (b * 1) % 2 ^ 64
     unmoved = omega arith
+
+-- the bytes end after k: no bit after them is 1
+pub bits-end : (bytes : List ℕ) (b k : ℕ) → k ≤ 8 → length bytes ≤ b + k → bitsAt bytes (b * 8) 64 ≡ bitsAt bytes (b * 8) (k * 8) * 2 ^ (64 - k * 8)
+bits-end bytes b k few end =
+    let whole : k * 8 + (64 - k * 8) ≡ 64 = omega arith in
+    ap (bitsAt bytes (b * 8)) (sym whole)
+    ∙ bits-add bytes (b * 8) (k * 8) (64 - k * 8)
+    ∙ ap (λ (x : ℕ). bitsAt bytes (b * 8) (k * 8) * 2 ^ (64 - k * 8) + x) none
+    ∙ add-zero _
+  where
+    none : bitsAt bytes (b * 8 + k * 8) (64 - k * 8) ≡ 0
+    none =
+        same-weights (64 - k * 8) _ 0 (bits-lt bytes (b * 8 + k * 8) (64 - k * 8)) (pow-pos (64 - k * 8))
+        (λ i l. weight-of-bits bytes (b * 8 + k * 8) l ∙ bit-past bytes (b * 8 + k * 8 + (64 - k * 8 - 1 - i)) (omega arith) ∙ sym (weight-zero i))

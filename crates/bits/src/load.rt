@@ -135,3 +135,24 @@ pub fn word_at_byte(bytes: &[u8], b: ByteNo) -> u64
         word_at(bytes, b.place())
     }
 }
+
+// The same where the bytes mostly end soon, as those of a short pattern do: only those that are there are read.
+pub fn word_near_end(bytes: &[u8], b: ByteNo) -> u64
+    requires { ⌜ b .0 < 2 ^ 29 ⌝ }
+    ensures { λ r. ⌜ r ≡ bitsAt (now (bytes .entry)) (b .0 * 8) 64 ⌝ }
+{
+    let at = b.0;
+    if at + 8 <= bytes.len() {
+        return eight_bytes(bytes, b);
+    }
+    let mut x: u64 = 0;
+    let mut k: usize = 0;
+    while at + k < bytes.len() {
+        x = x * 256 + wide(bytes[at + k]);
+        k += 1;
+    }
+    if k == 0 {
+        return 0;
+    }
+    x << (64 - 8 * k)
+}

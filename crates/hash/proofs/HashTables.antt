@@ -10,23 +10,19 @@ use native.Mathlib.Nat.{mod-eq-of-lt, mul-add-mod-self-right}
 use native.Mathlib.Numerals.{add-one}
 use native.Mathlib.Decide.{decLe, ℕ-discrete}
 use native.Mathlib.Omega.{arith}
-use lib.Dec.{eqb}
-use lib.Pow.{pow-mono, pow-add, high, ones-lt, ones-split}
-use borrow.Author.Tests.{eqb-true, eq-eqb}
+use lib.Pow.{pow-mono, pow-add, high}
 use lib.ListN.{length, getD, set, drop, take, length-set, List·getD-append}
 use lib.Seq.{paste, getD-set-same, getD-set-other, getD-take, getD-append-add, length-take-le, length-paste-head, length-paste, drop-set-lt, drop-paste, drop-drop}
-use Rattle.bits.specs.Packed.{bitAt, bitsAt, bitOf}
-use Rattle.bits.proofs.Weight.{weight-ones, same-weights}
-use Rattle.bits.proofs.Run.{bits-lt, bits-first, bit-of-bits, weight-of-bits}
+use Rattle.bits.specs.Packed.{bitsAt}
+use Rattle.bits.proofs.Run.{bits-lt, bits-first}
 use Rattle.rules.specs.declared.Method.the-variants.{Hash}
 use Rattle.rules.specs.Ranges.{least}
-use Rattle.rules.specs.Pattern.{Pattern, isFixed}
+use Rattle.rules.specs.Pattern.{Pattern}
 use Rattle.rules.specs.Wild.{AllFixed}
 use Rattle.rules.specs.Hash.{meets, hashAgain}
 use Rattle.hash.specs.HashMoves.{Moves, Entered}
 use Rattle.matcher.specs.Tables.{Prepared}
 use Rattle.rules.proofs.Ranges.{same-test, not-true-false, least-same}
-use Rattle.rules.proofs.Pattern.{fixed-iff}
 use Rattle.rules.proofs.Hash.{meets-load, meets-all}
 
 -- The moves

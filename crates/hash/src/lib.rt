@@ -10,21 +10,18 @@ use matcher::compare::Known;
 use matcher::wild;
 use rules::Method;
 ghost use mathlib.Core.Path.{_≡_};
-ghost use mathlib.Core.Logic.{_↔_};
-ghost use mathlib.Core.Bool.{true};
-ghost use Prim.Native.Nat.{ℕ, _+_, _-_, _*_, _^_, _≤_, _<_};
+ghost use Prim.Native.Nat.{_+_, _-_, _*_, _/_, _^_, _≤_, _<_};
 ghost use lib.ListN.{length, getD};
 ghost use lib.Seq.{paste};
+ghost use Rattle.bits.specs.Packed.{weight};
 ghost use Rattle.rules.specs.Wild.{AllFixed};
 ghost use Rattle.rules.specs.Occurrence.{places};
 ghost use Rattle.rules.specs.Step.{next};
 ghost use Rattle.hash.specs.HashMoves.{Entered};
-ghost use Rattle.hash.specs.HashWords.{RowMade, RowsMade, AllUnset};
+ghost use Rattle.hash.specs.HashWords.{United, Unions, LinedUp, FourMade, RowMade, RowsMade, AllUnset};
 ghost use Rattle.rules.specs.Scratch.{scratchCells};
 ghost use Rattle.matcher.specs.Tables.{Prepared};
 ghost use Rattle.matcher.specs.Progress.{patternOf, textIn, patternIn, HeadOf, GoodPattern, Ready, Stepped, Advanced};
-
-const ALL: u64 = 18446744073709551615;
 
 // The first cells once more after themselves.
 fn double(cells: &mut [u64], size: usize)
@@ -91,43 +88,102 @@ fn prepare_fixed(pattern: &[u8], fixed: &[u8], m: u32, cells: &mut [u64])
     enter(pattern, fixed, m, d, d, cells);
 }
 
-// With wild bits many values meet the condition at one move. So the moves are taken 56 at a time, by words of which bit e stands
-// for the move d + e (`matcher::wild`). They lie in the cells from WORDS on, those of four bits from FOUR on. A bit of cell
-// UNSET + h stands for a value whose first four bits are h, and is 1 while that has no move.
+// With wild bits many values meet the condition at one move. So the moves are taken 57 at a time, by words of which bit e stands
+// for the move d + 1 + e (`matcher::wild`). They lie in the cells from WORDS on, those of four bits from FOUR on. Many a value
+// meets the condition at none of these moves, and four values are ruled out at once by the union of their words, in the cells
+// from UNIONS on. A bit of cell UNSET + h stands for a value whose first four bits are h, and is 1 while that has no move.
 const WORDS: usize = 256;
 
 const FOUR: usize = 262;
 
-const UNSET: usize = 278;
+const UNIONS: usize = 278;
 
-// The moves d + 1 to d + 56 of the 16 values whose first four bits are `high`, for those in `unset` that have none yet: each gets
-// the least at which the words of its two halves agree. The answer has those that are left.
-fn settle_row(cells: &mut [u64], high: usize, unset: u64, d: u32) -> u64
-    requires { ⌜ (high < 16) × (unset < 2 ^ 16) × (d ≤ 2048) × (512 ≤ length (now cells)) ⌝ }
-    ensures { λ r. ⌜ RowMade d high unset (now (cells .entry)) r (now (cells .exit)) ⌝ }
+const UNSET: usize = 342;
+
+// The word if bit j of the set is 1, else 0.
+fn if_in(word: u64, set: u64, j: usize) -> u64
+    requires { ⌜ j < 64 ⌝ }
+    ensures { λ r. ⌜ r ≡ word * weight set j ⌝ }
 {
-    let later = cells[FOUR + high] >> 5;
-    if later == 0 {
-        return unset;
+    word * ((set >> j) & 1)
+}
+
+// The unions of four words, one for each set of them.
+fn unite(cells: &mut [u64], g: usize)
+    requires { ⌜ (g < 4) × (512 ≤ length (now cells)) ⌝ }
+    ensures { λ _. ⌜ United g (now (cells .entry)) (now (cells .exit)) ⌝ }
+{
+    let a = cells[FOUR + 4 * g];
+    let b = cells[FOUR + 4 * g + 1];
+    let c = cells[FOUR + 4 * g + 2];
+    let d = cells[FOUR + 4 * g + 3];
+    let mut set = 0usize;
+    while set < 16 {
+        let s = set as u64;
+        cells[UNIONS + 16 * g + set] = if_in(a, s, 0)
+            | if_in(b, s, 1)
+            | if_in(c, s, 2)
+            | if_in(d, s, 3);
+        set += 1;
     }
-    let mut left = unset;
+}
+
+// The words for the moves after d, and their unions.
+fn line_up(pattern: &[u8], fixed: &[u8], m: u32, d: u32, cells: &mut [u64])
+    requires { ⌜ (d < m) × (m ≤ 2048) × (512 ≤ length (now cells)) ⌝ }
+    ensures { λ _. ⌜ LinedUp (patternOf (now (pattern .entry)) (now (fixed .entry)) m) d (now (cells .entry)) (now (cells .exit)) ⌝ }
+{
+    wild::line_up(pattern, fixed, m, d + 1, cells, WORDS);
+    let mut g = 0usize;
+    while g < 4 {
+        unite(cells, g);
+        g += 1;
+    }
+}
+
+// The moves d + 1 to d + 57 of the four values whose first four bits are `high` and whose next two are g, for those in `unset`,
+// which have none yet: each gets the least at which the words of its two halves agree. The answer has those that are left.
+fn settle_four(cells: &mut [u64], high: usize, g: usize, later: u64, unset: u64, d: u32) -> u64
+    requires { ⌜ (high < 16) × (g < 4) × (d ≤ 2048) × (512 ≤ length (now cells)) ⌝ }
+    requires { ⌜ later ≡ getD (now cells) (262 + high) 0 / 2 ^ 4 ⌝ }
+    ensures { λ r. ⌜ FourMade d high g unset (now (cells .entry)) r (now (cells .exit)) ⌝ }
+{
     let mut kept = unset;
-    while left != 0 {
-        let low = u64::trailing_zeros(left) as usize;
-        left = left & (left - 1);
-        let moves = (cells[FOUR + low] >> 1) & later;
+    let mut low = 4 * g;
+    while low < 4 * g + 4 {
+        let moves = if_in(cells[FOUR + low], kept, low) & later;
         if moves != 0 {
             cells[16 * high + low] = (d + 1 + u64::trailing_zeros(moves)) as u64;
             kept = kept ^ (1 << low);
         }
+        low += 1;
     }
     kept
 }
 
-// The moves d + 1 to d + 56 of all values. Where the answer is 0 each has its move.
+// The same for the 16 values whose first four bits are `high`.
+fn settle_row(cells: &mut [u64], high: usize, unset: u64, d: u32) -> u64
+    requires { ⌜ (high < 16) × (d ≤ 2048) × (512 ≤ length (now cells)) ⌝ }
+    requires { ⌜ Unions (now cells) ⌝ }
+    ensures { λ r. ⌜ RowMade d high unset (now (cells .entry)) r (now (cells .exit)) ⌝ }
+{
+    let later = cells[FOUR + high] >> 4;
+    let mut kept = unset;
+    let mut g = 0usize;
+    while g < 4 {
+        let set = ((kept >> (4 * g)) & 15) as usize;
+        if cells[UNIONS + 16 * g + set] & later != 0 {
+            kept = settle_four(cells, high, g, later, kept, d);
+        }
+        g += 1;
+    }
+    kept
+}
+
+// The moves d + 1 to d + 57 of all values. Where the answer is 0 each has its move.
 fn settle(cells: &mut [u64], d: u32) -> u64
     requires { ⌜ (d ≤ 2048) × (512 ≤ length (now cells)) ⌝ }
-    requires { ⌜ ((high : ℕ) → high < 16 → getD (now cells) (278 + high) 0 < 2 ^ 16) ⌝ }
+    requires { ⌜ Unions (now cells) ⌝ }
     ensures { λ r. ⌜ RowsMade d (now (cells .entry)) r (now (cells .exit)) ⌝ }
 {
     let mut unset = 0u64;
@@ -164,9 +220,9 @@ fn prepare_wild(pattern: &[u8], fixed: &[u8], m: u32, cells: &mut [u64])
     let mut d = 0u32;
     let mut unset = 1u64;
     while d < m && unset != 0 {
-        wild::line_up(pattern, fixed, m, d, cells, WORDS);
+        line_up(pattern, fixed, m, d, cells);
         unset = settle(cells, d);
-        d += 56;
+        d += 57;
     }
 }
 

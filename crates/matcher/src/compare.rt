@@ -38,11 +38,11 @@ pub fn known_of(pattern: &[u8], fixed: &[u8], n: u32, m: u32) -> Known
     requires { ⌜ 0 < m ⌝ }
     ensures { λ r. ⌜ (r .n ≡ n) × (r .m ≡ m) × HeadOf (patternOf (now (pattern .entry)) (now (fixed .entry)) m) (r .head) (r .mask) ⌝ }
 {
-    let mask = load::word_at(fixed, Place(0)) & front(m);
+    let mask = load::word_near_end(fixed, ByteNo(0)) & front(m);
     Known {
         n: n,
         m: m,
-        head: load::word_at(pattern, Place(0)) & mask,
+        head: load::word_near_end(pattern, ByteNo(0)) & mask,
         mask: mask,
     }
 }

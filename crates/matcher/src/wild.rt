@@ -27,7 +27,7 @@ pub fn all_fixed(pattern: &[u8], fixed: &[u8], m: u32) -> bool
         }
         o += 64;
     }
-    load::word_at_byte(fixed, Place(o).byte()) >> (64 - (m - o)) == ALL >> (64 - (m - o))
+    load::word_near_end(fixed, Place(o).byte()) >> (64 - (m - o)) == ALL >> (64 - (m - o))
 }
 
 // The 64 bits of a run that end d bits before its bit m, those before its first bit 0.

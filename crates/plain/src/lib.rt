@@ -68,8 +68,9 @@ pub fn prepare(pattern: &[u8], fixed: &[u8], m: u32, cells: &mut [u64])
     let mut prev_mask = 0u64;
     let mut k = 0u32;
     while k < chunks {
-        let mask = load::word_at(fixed, Place(64 * k)) & ones(m, k);
-        let x = load::word_at(pattern, Place(64 * k)) & mask;
+        let b = Place(64 * k).byte();
+        let mask = load::word_near_end(fixed, b) & ones(m, k);
+        let x = load::word_near_end(pattern, b) & mask;
         fill(cells, k as usize, prev, x, prev_mask, mask);
         prev = x;
         prev_mask = mask;

@@ -59,3 +59,10 @@ module _ (t : Packed) (w : Pattern) (cells : List ℕ) (ready : Ready Skip t w c
         let short = ready .pattern .few-bits in
         let inside = ready .inside in
         record { small = omega arith; top = omega arith; there = omega arith; within = omega arith; goes-on = omega arith }
+
+    -- the last byte of a mark up to E
+    pub last-small : (b : ℕ) → b ≡ (s + w .count) / 8 - 1 → s ≤ places t w → b < 2 ^ 29
+    last-small b e h =
+        let few = ready .few-bits in
+        let inside = ready .inside in
+        omega arith

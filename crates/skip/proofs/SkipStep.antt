@@ -78,6 +78,10 @@ module _ (t : Packed) (w : Pattern) where
   pub mark-from : (at b : ℕ) → 15 ≤ w .count → at % 8 ≡ 1 → b ≡ lastByte w at → 8 * b + 1 - chained (w .count) ≡ at
   mark-from at b long odd last = omega (arith, chained-span at (w .count) odd long, reaches-byte w at long)
 
+  -- the mark lies below E where its last byte does
+  pub mark-below : (at b : ℕ) → 15 ≤ w .count → b ≡ lastByte w at → 8 * b < places t w → at < places t w
+  mark-below at b long last inside = omega (arith, reaches-byte w at long)
+
   -- A turn of many steps: a step more from a mark 8 a + 1, all of whose places lie below E, by its last byte b. Each has a cell.
   pub turn-whole : (s budget : ℕ) (before : List ℕ) (had at steps hits : ℕ) (list : List ℕ) → had ≤ length before
       → Advanced Skip t w s budget before had at steps hits false list → steps < budget → 15 ≤ w .count → (b : ℕ) → b ≡ lastByte w at → 8 * b < places t w
@@ -85,8 +89,11 @@ module _ (t : Packed) (w : Pattern) where
       → Advanced Skip t w s budget before had (8 * b + 1) (steps + 1) hits' false list'
   turn-whole s budget before had at steps hits list room made few long b last inside at' hits' list' u =
       let ahead-is : at' ≡ 8 * b + 1 = u .mark ∙ skip-next-is at long ∙ ap (λ (x : ℕ). min (8 * x + 1) (places t w)) (sym last) ∙ omega arith in
-      let from : at < places t w = omega (arith, reaches-byte w at long) in
-      rw ahead-is at (advanced-step Skip t w s budget before had at steps hits list room made at' hits' false list' from few u)
+      rw ahead-is at (advanced-step Skip t w s budget before had at steps hits list room made at' hits' false list' (mark-below at b long last inside) few u)
+
+-- 8 b + 1 as a mark
+pub top-odd : (b at : ℕ) → at ≡ 8 * b + 1 → at % 8 ≡ 1
+top-odd b at e = omega arith
 
 -- how far the places of a step reach: the index of each fits into the pattern
 pub span-fits : (s m : ℕ) → 15 ≤ m → 8 * ((s + m) / 8 - 1) + 1 - s + 7 ≤ m

@@ -38,6 +38,11 @@ pub record Flagging (w : Pattern) (B k c left : ℕ) : Type 0 where
   pub none : (d : ℕ) → d < 57 * c → shownBy w B k d ≡ false
   pub flags : Flags w B k (57 * c) left
 
+-- A block from which such a walk goes on: its flags, or none where no index that is still to come shows B.
+pub record NextBlock (w : Pattern) (B k c left : ℕ) : Type 0 where
+  pub flagging : (left ≡ 0 → ⊥) → Flagging w B k c left
+  pub none : left ≡ 0 → k + 7 ≤ w .count → 0 ≡ lastShown w B k
+
 -- A walk has come to a link. Along a chain it is one of the chain, once its index is one of those chained; by words, the
 -- flags left are those of the indices below it.
 pub record Walking (w : Pattern) (B kind : ℕ) (l : Links) : Type 0 where

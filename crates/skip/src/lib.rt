@@ -18,11 +18,11 @@ use matcher::wild;
 use rules::Method;
 ghost use mathlib.Core.Path.{_≡_};
 ghost use mathlib.Core.List.{_++_};
-ghost use Prim.Native.Nat.{_+_, _-_, _*_, _/_, _^_, _≤_, _<_};
+ghost use Prim.Native.Nat.{ℕ, _+_, _-_, _*_, _/_, _%_, _^_, _≤_, _<_};
 ghost use lib.ListN.{length, getD, drop, replicate};
 ghost use Rattle.rules.specs.Wild.{AllFixed};
 ghost use Rattle.rules.specs.Occurrence.{places};
-ghost use Rattle.skip.specs.SkipChains.{Filled, lastShown, Flags, Flagging, Walking};
+ghost use Rattle.skip.specs.SkipChains.{Filled, lastShown, Flags, Flagging, NextBlock, Walking};
 ghost use Rattle.rules.specs.Scratch.{scratchCells};
 ghost use Rattle.matcher.specs.Tables.{chained, lastBelow, inChain, ChainTables, WordTables, SkipTables, Prepared};
 ghost use Rattle.matcher.specs.Progress.{patternOf, textIn, patternIn, HeadOf, GoodPattern, Ready, Stepped, Advanced};
@@ -181,6 +181,49 @@ fn flags(pattern: &[u8], fixed: &[u8], m: u32, cells: &[u64], v: u8, c: u32) -> 
     both
 }
 
+// A block of 57 moves, its number and the first of them, and its flags.
+struct Block {
+    number: u32,
+    far: u32,
+    left: u64,
+}
+
+// The flags of block c or, where it has none, those of the first block after it that has some.
+fn next_block(
+    pattern: &[u8],
+    fixed: &[u8],
+    m: u32,
+    cells: &[u64],
+    v: u8,
+    c: u32,
+    left: u64,
+) -> Block
+    requires { ⌜ WordTables (patternOf (now pattern) (now fixed) m) (now cells) ⌝ }
+    requires { ⌜ (256 + m ≤ length (now cells)) × (m ≤ 2048) × (57 * c + 8 ≤ m) ⌝ }
+    ensures { λ r. ⌜ (r .far ≡ 57 * r .number) × (c ≤ r .number) × (r .number ≡ c → r .left ≡ left) × ((k : ℕ) → Flagging (patternOf (now (pattern .entry)) (now (fixed .entry)) m) v k c left → NextBlock (patternOf (now (pattern .entry)) (now (fixed .entry)) m) v k (r .number) (r .left)) ⌝ }
+{
+    let mut number = c;
+    let mut far = 57 * c;
+    let mut f = left;
+    while f == 0 {
+        number += 1;
+        far += 57;
+        if m < far + 8 {
+            return Block {
+                number: number,
+                far: far,
+                left: 0,
+            };
+        }
+        f = flags(pattern, fixed, m, cells, v, number);
+    }
+    Block {
+        number: number,
+        far: far,
+        left: f,
+    }
+}
+
 // The link of the lowest flag, in the first block from c on that has one.
 fn lowest(
     pattern: &[u8],
@@ -197,22 +240,18 @@ fn lowest(
     requires { ⌜ Flagging (patternOf (now pattern) (now fixed) m) v k c left ⌝ }
     ensures { λ r. ⌜ (r .first ≡ lastShown (patternOf (now (pattern .entry)) (now (fixed .entry)) m) v k) × (0 < r .first → Flagging (patternOf (now (pattern .entry)) (now (fixed .entry)) m) v (r .first - 1) (r .block) (r .left)) ⌝ }
 {
-    let mut block = c;
-    let mut f = left;
-    while f == 0 {
-        block += 1;
-        if m < 57 * block + 8 {
-            return Links {
-                first: 0,
-                block: block,
-                left: 0,
-            };
-        }
-        f = flags(pattern, fixed, m, cells, v, block);
+    let next = next_block(pattern, fixed, m, cells, v, c, left);
+    let f = next.left;
+    if f == 0 {
+        return Links {
+            first: 0,
+            block: 0,
+            left: 0,
+        };
     }
     Links {
-        first: (m - 7 - 57 * block - u64::trailing_zeros(f)) as u64,
-        block: block,
+        first: (m - 7 - next.far - u64::trailing_zeros(f)) as u64,
+        block: next.number,
         left: f & (f - 1),
     }
 }
@@ -391,8 +430,8 @@ fn chain(
     walk(text, pattern, fixed, known, cells, b, list, had)
 }
 
-// The same by words: the flags of a block after those of another, lowest first. The place of a block's flag e is so many
-// bits after `from`, less m.
+// The same by words: the flags of a block after those of another, lowest first. The place of a block's flag e is
+// 8 b + 8 + far + e, less m.
 fn sweep(
     text: &[u8],
     pattern: &[u8],
@@ -412,29 +451,29 @@ fn sweep(
     let byte = b.0;
     let v = text[byte];
     let m = known.m;
-    let mut from = b.place().0 + 8;
+    let from = b.place().0 + 8;
     let mut block = 0u32;
     let mut f = flags(pattern, fixed, m, cells, v, 0) & (ALL << (m - 7 - indices(m)));
     let mut written = had;
-    while (f != 0) | (57 * block + 65 <= m) {
+    loop {
+        let next = next_block(pattern, fixed, m, cells, v, block, f);
+        f = next.left;
         if f == 0 {
-            block += 1;
-            from += 57;
-            f = flags(pattern, fixed, m, cells, v, block);
-        } else {
-            let p = from + u64::trailing_zeros(f) - m;
-            f = f & (f - 1);
-            if compare::same(text, pattern, fixed, known, Place(p)) {
-                if list.len() <= written {
-                    return Found {
-                        at: Place(p),
-                        hits: written,
-                        full: true,
-                    };
-                }
-                list[written] = p;
-                written += 1;
+            break;
+        }
+        block = next.number;
+        let p = from + next.far + u64::trailing_zeros(f) - m;
+        f = f & (f - 1);
+        if compare::same(text, pattern, fixed, known, Place(p)) {
+            if list.len() <= written {
+                return Found {
+                    at: Place(p),
+                    hits: written,
+                    full: true,
+                };
             }
+            list[written] = p;
+            written += 1;
         }
     }
     Found {
@@ -444,34 +483,9 @@ fn sweep(
     }
 }
 
-// The step from a mark 8 a + 1, by tables of either kind.
-fn decide(
-    text: &[u8],
-    pattern: &[u8],
-    fixed: &[u8],
-    known: Known,
-    cells: &[u64],
-    kind: u64,
-    b: ByteNo,
-    list: &mut [u32],
-    had: usize,
-) -> Found
-    requires { ⌜ Ready Method.Skip (textIn (now text) known) (patternIn (now pattern) (now fixed) known) (now cells) ⌝ }
-    requires { ⌜ HeadOf (patternIn (now pattern) (now fixed) known) (known .head) (known .mask) ⌝ }
-    requires { ⌜ (chained (known .m) ≤ 8 * b .0) × (8 * b .0 < places (textIn (now text) known) (patternIn (now pattern) (now fixed) known)) × (had ≤ length (now list)) ⌝ }
-    requires { ⌜ kind ≡ getD (now cells) (255 + known .m) 0 ⌝ }
-    ensures { λ r. ⌜ Stepped Method.Skip (textIn (now (text .entry)) known) (patternIn (now (pattern .entry)) (now (fixed .entry)) known) (8 * b .0 + 1 - chained (known .m)) (now (list .entry)) had (r .at .0) (r .hits) (r .full) (now (list .exit)) ⌝ }
-{
-    if kind == 0 {
-        return chain(text, pattern, fixed, known, cells, b, list, had);
-    }
-    sweep(text, pattern, fixed, known, cells, b, list, had)
-}
-
-// Many steps, each from a mark 8 a + 1: its byte is b, and that of the next mark, 8 b + 1, lies as many bits on as indices
-// are chained. From any other mark it makes no step: only a call's first mark is one. Nor does it make the last step, whose
-// places need not all lie below the number of places: that is for `step`.
-pub fn advance(
+// Many steps by chains, each from a mark 8 a + 1: its byte is b, and that of the next mark, 8 b + 1, lies as many bits on as
+// indices are chained. The last step, whose places need not all lie below the number of places, is for `step`.
+fn by_chains(
     text: &[u8],
     pattern: &[u8],
     fixed: &[u8],
@@ -485,25 +499,17 @@ pub fn advance(
     requires { ⌜ Ready Method.Skip (textIn (now text) known) (patternIn (now pattern) (now fixed) known) (now cells) ⌝ }
     requires { ⌜ HeadOf (patternIn (now pattern) (now fixed) known) (known .head) (known .mask) ⌝ }
     requires { ⌜ (s .0 ≤ places (textIn (now text) known) (patternIn (now pattern) (now fixed) known)) × (had ≤ length (now list)) ⌝ }
+    requires { ⌜ (s .0 % 8 ≡ 1) × ChainTables (patternIn (now pattern) (now fixed) known) (now cells) ⌝ }
     ensures { λ r. ⌜ Advanced Method.Skip (textIn (now (text .entry)) known) (patternIn (now (pattern .entry)) (now (fixed .entry)) known) (s .0) budget (now (list .entry)) had (r .at .0) (r .steps) (r .hits) (r .full) (now (list .exit)) ⌝ }
 {
     let end = known.n - known.m + 1;
     let stride = Place(indices(known.m)).byte().0;
-    let kind = cells[255 + known.m as usize];
     let mut at = s.0;
-    if s.offset() != 1 {
-        return Advance {
-            at: s,
-            steps: 0,
-            hits: had,
-            full: false,
-        };
-    }
     let mut b = last_byte(s, known.m);
     let mut steps = 0u32;
     let mut hits = had;
     while b.place().0 < end && steps < budget {
-        let found = decide(text, pattern, fixed, known, cells, kind, b, list, hits);
+        let found = chain(text, pattern, fixed, known, cells, b, list, hits);
         hits = found.hits;
         if found.full {
             let stop = found.at;
@@ -524,4 +530,83 @@ pub fn advance(
         hits: hits,
         full: false,
     }
+}
+
+// The same by words. A loop for each kind of tables is faster than one for both.
+fn by_words(
+    text: &[u8],
+    pattern: &[u8],
+    fixed: &[u8],
+    known: Known,
+    cells: &[u64],
+    s: Place,
+    budget: u32,
+    list: &mut [u32],
+    had: usize,
+) -> Advance
+    requires { ⌜ Ready Method.Skip (textIn (now text) known) (patternIn (now pattern) (now fixed) known) (now cells) ⌝ }
+    requires { ⌜ HeadOf (patternIn (now pattern) (now fixed) known) (known .head) (known .mask) ⌝ }
+    requires { ⌜ (s .0 ≤ places (textIn (now text) known) (patternIn (now pattern) (now fixed) known)) × (had ≤ length (now list)) ⌝ }
+    requires { ⌜ (s .0 % 8 ≡ 1) × WordTables (patternIn (now pattern) (now fixed) known) (now cells) ⌝ }
+    ensures { λ r. ⌜ Advanced Method.Skip (textIn (now (text .entry)) known) (patternIn (now (pattern .entry)) (now (fixed .entry)) known) (s .0) budget (now (list .entry)) had (r .at .0) (r .steps) (r .hits) (r .full) (now (list .exit)) ⌝ }
+{
+    let end = known.n - known.m + 1;
+    let stride = Place(indices(known.m)).byte().0;
+    let mut at = s.0;
+    let mut b = last_byte(s, known.m);
+    let mut steps = 0u32;
+    let mut hits = had;
+    while b.place().0 < end && steps < budget {
+        let found = sweep(text, pattern, fixed, known, cells, b, list, hits);
+        hits = found.hits;
+        if found.full {
+            let stop = found.at;
+            return Advance {
+                at: stop,
+                steps: steps,
+                hits: hits,
+                full: true,
+            };
+        }
+        steps += 1;
+        at = b.place_at(1).0;
+        b = ByteNo(b.0 + stride);
+    }
+    Advance {
+        at: Place(at),
+        steps: steps,
+        hits: hits,
+        full: false,
+    }
+}
+
+// Many steps by the tables of either kind. From a mark that is not 8 a + 1 it makes no step: only a call's first mark is one.
+pub fn advance(
+    text: &[u8],
+    pattern: &[u8],
+    fixed: &[u8],
+    known: Known,
+    cells: &[u64],
+    s: Place,
+    budget: u32,
+    list: &mut [u32],
+    had: usize,
+) -> Advance
+    requires { ⌜ Ready Method.Skip (textIn (now text) known) (patternIn (now pattern) (now fixed) known) (now cells) ⌝ }
+    requires { ⌜ HeadOf (patternIn (now pattern) (now fixed) known) (known .head) (known .mask) ⌝ }
+    requires { ⌜ (s .0 ≤ places (textIn (now text) known) (patternIn (now pattern) (now fixed) known)) × (had ≤ length (now list)) ⌝ }
+    ensures { λ r. ⌜ Advanced Method.Skip (textIn (now (text .entry)) known) (patternIn (now (pattern .entry)) (now (fixed .entry)) known) (s .0) budget (now (list .entry)) had (r .at .0) (r .steps) (r .hits) (r .full) (now (list .exit)) ⌝ }
+{
+    if s.offset() != 1 {
+        return Advance {
+            at: s,
+            steps: 0,
+            hits: had,
+            full: false,
+        };
+    }
+    if cells[255 + known.m as usize] == 0 {
+        return by_chains(text, pattern, fixed, known, cells, s, budget, list, had);
+    }
+    by_words(text, pattern, fixed, known, cells, s, budget, list, had)
 }

@@ -1,7 +1,7 @@
 -- A step of the tail method by its masks: it moves by the greatest length that the window's end leaves, and finds its place just where
 -- the window agrees with the pattern.
 -- Assumes nothing.
-use Prim.Native.Nat.{ℕ, suc, _+_, _-_, _*_, _/_, _%_, _^_, _≤_, _<_, min, max}
+use Prim.Native.Nat.{ℕ, zero, suc, _+_, _-_, _*_, _/_, _%_, _^_, _≤_, _<_, min, max}
 use mathlib.Core.Path.{_≡_, refl, sym, ap, _∙_}
 use mathlib.Core.Logic.{_⊎_, inl, inr, _↔_}
 use mathlib.Core.Bool.{Bool, true, false, _&&_, cond}
@@ -9,7 +9,7 @@ use mathlib.Core.List.{List, []}
 use mathlib.Core.Option.{Option, some}
 use native.Mathlib.Nat.{zero-add}
 use native.Mathlib.Omega.{arith}
-use lib.Bits.{bitAnd, bitOr, bitXor, and-le-r, and-zero-l, xor-lt, xor-self}
+use lib.Bits.{bitAnd, bitOr, bitXor, and-le-r, xor-lt}
 use lib.Dec.{ltb}
 use lib.ListN.{length, getD, set, length-set}
 use lib.Pow.{pow-pos, shr-lt, shr-shr}
@@ -47,15 +47,27 @@ pub at-most-min : (a b : ℕ) → a ≤ b → min a b ≡ a
 at-most-min a b h = omega arith
 
 -- a move of at most m from there stays before the end of the text, and so fits its type
-pub stays : (at n m r : ℕ) → m ≤ n → at < 1 + n - m → at + (m - r) ≤ n
-stays at n m r h l = omega arith
+pub stays : (at n m far : ℕ) → far ≤ m → m ≤ n → at < 1 + n - m → at + far ≤ n
+stays at n m far few h l = omega arith
 
-pub mark-fits : (at n m r : ℕ) → n ≤ 2 ^ 30 → m ≤ n → at < 1 + n - m → at + (m - r) < 2 ^ 32
-mark-fits at n m r few h l = omega (arith, stays at n m r h l)
+pub mark-fits : (at n : ℕ) → n ≤ 2 ^ 30 → at ≤ n → at < 2 ^ 32
+mark-fits at n few l = omega arith
 
 -- and so does a count
 pub one-more : (a b n : ℕ) → a < b → b < n → a + 1 < n
 one-more a b n l h = omega arith
+
+-- one step is more than none
+pub not-both : (steps : ℕ) → steps ≡ 0 → steps ≡ 1 → ⊥
+not-both steps e f = omega arith
+
+pub counts : (steps : ℕ) → steps + 1 ≡ 0 → ⊥
+counts steps e = omega arith
+
+-- a mark that is a place, and one past the places that no step has moved, cannot be the same
+pub one-made : (steps at s end : ℕ) → steps ≤ 1 → s < end → end ≤ at → (steps ≡ 0 → at ≡ s) → steps ≡ 1
+one-made zero at s end few l past same = let e : at ≡ s = same refl in omega arith
+one-made (suc steps) at s end few l past same = omega arith
 
 -- fewer steps are left after one
 pub less-left : (steps budget : ℕ) → steps < budget → budget - (steps + 1) < budget - steps
@@ -232,12 +244,6 @@ module _ (t : Packed) (w : Pattern) (s : ℕ) (k : Masks) (h : Held w k) (x : �
   window-hit none =
       to-matches t w s (λ j l.
       bit-agrees j l .1 (ap (λ (y : ℕ). weight y (w .count - 1 - j)) none ∙ weight-zero (w .count - 1 - j)))
-
-  -- and so does the pattern itself
-  pub window-own : x ≡ k .ones / 2 ^ (64 - w .count) → matches t w s ≡ true
-  unfolding whole care-there
-  window-own same =
-      window-hit (ap (λ (y : ℕ). bitAnd (bitXor y whole) care-there) same ∙ ap (λ (y : ℕ). bitAnd y care-there) (xor-self whole) ∙ and-zero-l care-there)
 
   pub window-miss : (bitAnd (bitXor x (k .ones / 2 ^ (64 - w .count))) (k .care / 2 ^ (64 - w .count)) ≡ 0 → ⊥) → matches t w s ≡ false
   unfolding whole care-there

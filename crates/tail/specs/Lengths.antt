@@ -3,12 +3,16 @@
 use Prim.Native.Nat.{ℕ, suc, _+_, _-_, _*_, _/_, _%_, _^_, _≤_, _<_}
 use mathlib.Core.Path.{_≡_}
 use mathlib.Core.Bool.{Bool, true, cond}
+use mathlib.Core.List.{List}
 use mathlib.Core.Option.{some}
 use lib.Bits.{bitAnd, bitXor}
 use lib.Dec.{eqb}
-use Rattle.bits.specs.Packed.{weight, bitOf}
+use Rattle.bits.specs.Packed.{Packed, weight, bitOf}
+use Rattle.rules.specs.declared.Method.the-variants.{Tail}
 use Rattle.rules.specs.Ranges.{every, greatest}
 use Rattle.rules.specs.Pattern.{Pattern, agrees}
+use Rattle.rules.specs.Occurrence.{places}
+use Rattle.matcher.specs.Progress.{Stepped}
 use Rattle.tail.specs.declared.Masks.{Masks}
 
 -- the pattern's first r bits are the last r bits of the window x
@@ -105,3 +109,7 @@ pub record Settled (ones care x d r : ℕ) : Type 0 where
   pub left : 0 < r → weight d r ≡ 1
   pub fits : Fits ones care x r
   pub none-above : (i : ℕ) → r < i → weight d i ≡ 1 → Fits ones care x i → ⊥
+
+-- Where one step is asked for, and the mark is a place, that step is made.
+abbrev pub OneStep : Packed → Pattern → ℕ → ℕ → List ℕ → ℕ → ℕ → ℕ → Bool → List ℕ → Type 0
+OneStep t w s budget before had at hits no-cell list = budget ≡ 1 → s < places t w → Stepped Tail t w s before had at hits no-cell list

@@ -29,7 +29,7 @@ ghost use Rattle.bits.specs.Packed.{bitsAt};
 ghost use Rattle.rules.specs.Occurrence.{places};
 ghost use Rattle.rules.specs.Scratch.{scratchCells};
 ghost use Rattle.matcher.specs.Tables.{Prepared};
-ghost use Rattle.tail.specs.Lengths.{Longest, Moves, spreadOf, everyBit, FirstRun, Four, Made, Keeps, Top, Differs, Settled};
+ghost use Rattle.tail.specs.Lengths.{OneStep, Longest, spreadOf, everyBit, FirstRun, Four, Made, Keeps, Top, Differs, Settled};
 ghost use Rattle.matcher.specs.Progress.{patternOf, textIn, patternIn, HeadOf, GoodPattern, Ready, Stepped, Advanced};
 
 const ALL: u64 = 18446744073709551615;
@@ -41,8 +41,8 @@ pub fn prepare(pattern: &[u8], fixed: &[u8], m: u32, cells: &mut [u64])
     ensures { λ _. ⌜ Prepared Method.Tail (patternOf (now (pattern .entry)) (now (fixed .entry)) m) (now (cells .entry)) (now (cells .exit)) ⌝ }
 {
     let inside = ALL << (64 - m);
-    let care = load::word_at_byte(fixed, ByteNo(0)) & inside;
-    let ones = load::word_at_byte(pattern, ByteNo(0)) & care;
+    let care = load::word_near_end(fixed, ByteNo(0)) & inside;
+    let ones = load::word_near_end(pattern, ByteNo(0)) & care;
     cells[0] = inside ^ ones;
     cells[1] = ones | (inside ^ care);
 }
@@ -235,16 +235,65 @@ fn longest(k: Masks, x: u64) -> u32
     compare_down(k.ones, k.care, x, lengths_left(k, x))
 }
 
-// How far the mark moves from the window x, given the move from another window. Where the two are the same, so are the moves:
-// on a regular text the processor then knows the next place without waiting for the length.
-fn move_from(k: Masks, x: u64, last: u64, far: u32) -> u32
-    requires { ⌜ (0 < k .m) × (k .m ≤ 64) × Made k × Moves k last far ⌝ }
-    ensures { λ r. ⌜ Moves k x r ⌝ }
+// At most so many steps. What a window tells, how far the mark moves and whether the pattern stands there, holds for the next
+// window too if that is the same: on a regular text the processor then knows the next place without waiting for the length.
+//
+// A function with two callers is not inlined, and one with a single caller is. So that the loop has all registers, one step is
+// made here too; and so that `window` is inlined in the loop, the first window is loaded without it.
+fn scan(
+    text: &[u8],
+    pattern: &[u8],
+    fixed: &[u8],
+    known: Known,
+    cells: &[u64],
+    s: Place,
+    budget: u32,
+    list: &mut [u32],
+    had: usize,
+) -> Advance
+    requires { ⌜ Ready Method.Tail (textIn (now text) known) (patternIn (now pattern) (now fixed) known) (now cells) ⌝ }
+    requires { ⌜ (s .0 ≤ places (textIn (now text) known) (patternIn (now pattern) (now fixed) known)) × (had ≤ length (now list)) ⌝ }
+    ensures { λ r. ⌜ Advanced Method.Tail (textIn (now (text .entry)) known) (patternIn (now (pattern .entry)) (now (fixed .entry)) known) (s .0) budget (now (list .entry)) had (r .at .0) (r .steps) (r .hits) (r .full) (now (list .exit)) ⌝ }
+    ensures { λ r. ⌜ OneStep (textIn (now (text .entry)) known) (patternIn (now (pattern .entry)) (now (fixed .entry)) known) (s .0) budget (now (list .entry)) had (r .at .0) (r .hits) (r .full) (now (list .exit)) ⌝ }
 {
-    if x == last {
-        return far;
+    let end = known.n - known.m + 1;
+    let k = masks_of(known.m, cells[0], cells[1]);
+    let whole = k.ones >> (64 - known.m);
+    let care = k.care >> (64 - known.m);
+    let mut last = load::word_at(text, s) >> (64 - known.m);
+    let mut far = known.m - longest(k, last);
+    let mut found = (last ^ whole) & care == 0;
+    let mut at = s.0;
+    let mut steps = 0u32;
+    let mut hits = had;
+    while at < end && steps < budget {
+        let x = window(text, known.m, Place(at));
+        if x != last {
+            far = known.m - longest(k, x);
+            found = (x ^ whole) & care == 0;
+            last = x;
+        }
+        if found {
+            if list.len() <= hits {
+                return Advance {
+                    at: Place(at),
+                    steps: steps,
+                    hits: hits,
+                    full: true,
+                };
+            }
+            list[hits] = at;
+            hits += 1;
+        }
+        steps += 1;
+        at += far;
     }
-    k.m - longest(k, x)
+    Advance {
+        at: Place(matcher::cut(at, end)),
+        steps: steps,
+        hits: hits,
+        full: false,
+    }
 }
 
 // One step: the place is found just if the window agrees with the pattern.
@@ -263,35 +312,16 @@ pub fn step(
     requires { ⌜ (s .0 < places (textIn (now text) known) (patternIn (now pattern) (now fixed) known)) × (had ≤ length (now list)) ⌝ }
     ensures { λ r. ⌜ Stepped Method.Tail (textIn (now (text .entry)) known) (patternIn (now (pattern .entry)) (now (fixed .entry)) known) (s .0) (now (list .entry)) had (r .at .0) (r .hits) (r .full) (now (list .exit)) ⌝ }
 {
-    let m = known.m;
-    let k = masks_of(m, cells[0], cells[1]);
-    let x = window(text, m, s);
-    let far = s.0 + (m - longest(k, x));
-    let next = Place(matcher::cut(far, known.n - m + 1));
-    if (x ^ (k.ones >> (64 - m))) & (k.care >> (64 - m)) == 0 {
-        if had < list.len() {
-            list[had] = s.0;
-            return Found {
-                at: next,
-                hits: had + 1,
-                full: false,
-            };
-        }
-        return Found {
-            at: s,
-            hits: had,
-            full: true,
-        };
-    }
+    let one = scan(text, pattern, fixed, known, cells, s, 1, list, had);
+    let at = one.at;
     Found {
-        at: next,
-        hits: had,
-        full: false,
+        at: at,
+        hits: one.hits,
+        full: one.full,
     }
 }
 
-// Many steps. Where the window is the pattern itself, its wild bits taken as ones, the move is always the same, and no other
-// test is needed.
+// Many steps.
 pub fn advance(
     text: &[u8],
     pattern: &[u8],
@@ -316,43 +346,5 @@ pub fn advance(
             full: false,
         };
     }
-    let end = known.n - known.m + 1;
-    let k = masks_of(known.m, cells[0], cells[1]);
-    let whole = k.ones >> (64 - known.m);
-    let care = k.care >> (64 - known.m);
-    let period = known.m - longest(k, whole);
-    let mut last = whole;
-    let mut far = period;
-    let mut at = s.0;
-    let mut steps = 0u32;
-    let mut hits = had;
-    while at < end && steps < budget {
-        let x = window(text, known.m, Place(at));
-        if x == whole || (x ^ whole) & care == 0 {
-            if list.len() <= hits {
-                return Advance {
-                    at: Place(at),
-                    steps: steps,
-                    hits: hits,
-                    full: true,
-                };
-            }
-            list[hits] = at;
-            hits += 1;
-        }
-        if x == whole {
-            at += period;
-        } else {
-            far = move_from(k, x, last, far);
-            last = x;
-            at += far;
-        }
-        steps += 1;
-    }
-    Advance {
-        at: Place(matcher::cut(at, end)),
-        steps: steps,
-        hits: hits,
-        full: false,
-    }
+    scan(text, pattern, fixed, known, cells, s, budget, list, had)
 }

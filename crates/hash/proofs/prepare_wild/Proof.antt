@@ -19,13 +19,13 @@ use Rattle.hash.proofs.prepare_wild.Tie as tie
 
 abbrev Inv-loop : tie.InvT-loop
 Inv-loop pattern fixed m cells₀ d₀ unset₀ cells d unset =
-    Settled (patternOf pattern fixed m) d cells × (unset ≡ 0 → AllEntered cells) × Only 0 294 cells₀ cells
+    Settled (patternOf pattern fixed m) d cells × (unset ≡ 0 → AllEntered cells) × Only 0 358 cells₀ cells
 
 abbrev μ-loop : tie.MeasureT-loop
 μ-loop pattern fixed m cells₀ d₀ unset₀ cells d unset = m - d
 
 -- only the table's cells and those of the work on it are changed
-only : (c : tie.At-loop Inv-loop μ-loop) → Only 0 294 (now (c .before .before .before .before .before .before .before .before .args .cells)) (c .loop .cells)
+only : (c : tie.At-loop Inv-loop μ-loop) → Only 0 358 (now (c .before .before .before .before .before .before .before .before .args .cells)) (c .loop .cells)
 only c = only-then (only-wider (c .before .before .before .unset-all .ensures .only) (omega arith) (omega arith)) (c .loop .inv .2)
 
 -- the next words change neither a row nor what tells of its cells
@@ -34,7 +34,7 @@ settled-now : (c : tie.After-line-up Inv-loop μ-loop)
     Settled (patternOf (now (a .pattern)) (now (a .fixed)) (a .m)) (c .before .before .before .before .loop .d) (c .line-up .last .1 .1 .1 .1 .0)
 settled-now c =
     let l = c .before .before .before .before .loop in
-    settled-same _ (l .d) (l .cells) _ (l .inv .0) (c .line-up .ensures .1)
+    settled-same _ (l .d) (l .cells) _ (l .inv .0) (c .line-up .ensures .only)
 
 -- the table is made
 all : (c : tie.At-loop Inv-loop μ-loop)
@@ -53,12 +53,12 @@ loop-holds c =
     (settled-none _ _ _ (c .before .before .unset-all .ensures), λ e. absurd (omega arith), only-none)
 
 line-up-requires : tie.Need-line-up-requires Inv-loop μ-loop
-line-up-requires c κs = (omega arith, omega (arith, only (c .before .before .before) .size))
+line-up-requires c κs = (omega arith, omega arith, omega (arith, only (c .before .before .before) .size))
 
 settle-requires : tie.Need-settle-requires Inv-loop μ-loop
 settle-requires c κs = (
-  (omega arith, omega (arith, only (c .before .before .before .before .before .before .before) .size, c .before .before .before .line-up .ensures .1 .size)),
-  λ high l. settled-now (c .before .before .before) high l .few,
+  (omega arith, omega (arith, only (c .before .before .before .before .before .before .before) .size, c .before .before .before .line-up .ensures .only .size)),
+  c .before .before .before .line-up .ensures .unions,
 )
 
 add-d : tie.Need-add-d Inv-loop μ-loop
@@ -73,9 +73,9 @@ loop-again c =
     let l = c .before .before .before .before .before .before .before .before .before .before .loop in
     let u = c .before .before .before .before .before .before in
     let r = c .before .before .settle .ensures in (
-      r .settled _ (s .pre .0 .some-bits) (u .line-up .ensures .0) (settled-now u),
+      r .settled _ (s .pre .0 .some-bits) (u .line-up .ensures .words) (settled-now u),
       r .all,
-      only-then (l .inv .2) (only-then (only-wider (u .line-up .ensures .1) (omega arith) (omega arith)) (r .only)),
+      only-then (l .inv .2) (only-then (only-wider (u .line-up .ensures .only) (omega arith) (omega arith)) (r .only)),
     )
 
 same-length : tie.Need-same-length Inv-loop μ-loop

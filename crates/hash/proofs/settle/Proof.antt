@@ -1,11 +1,11 @@
--- `hash::settle` meets its contract. The loop's invariant: the rows below `high` have the moves up to d + 56.
+-- `hash::settle` meets its contract. The loop's invariant: the rows below `high` have the moves up to d + 57.
 -- Assumes nothing.
 use borrow.Author.Needs.{needs}
-use mathlib.Core.Logic.{inr}
-use Prim.Native.Nat.{_+_, _-_, _^_, _≤_, _<_}
+use mathlib.Core.Logic.{inl}
+use Prim.Native.Nat.{_-_, _≤_}
 use native.Mathlib.Omega.{arith}
 use denote.Ref.{now}
-use lib.ListN.{getD}
+use Rattle.hash.proofs.HashWords.{union-same}
 use Rattle.hash.proofs.HashRows.{Rows, rows-none, rows-more, rows-all}
 use Rattle.hash.proofs.settle.Statement.{statement}
 use Rattle.hash.proofs.settle.Tie as tie
@@ -15,12 +15,6 @@ Inv-loop cells₀ d unset₀ high₀ cells unset high = (high ≤ 16) × Rows d 
 
 abbrev μ-loop : tie.MeasureT-loop
 μ-loop cells₀ d unset₀ high₀ cells unset high = 16 - high
-
--- the cells of the next row without a move
-few : (c : tie.In-loop Inv-loop μ-loop) → getD (c .before .loop .cells) (278 + c .before .loop .high) 0 < 2 ^ 16
-few c =
-    let l = c .before .loop in
-    rw (l .inv .1 .later (278 + l .high) (omega arith) (inr (omega arith))) (c .before .before .before .pre .1 (l .high) (omega arith))
 
 loop-holds : tie.Need-loop-holds Inv-loop μ-loop
 loop-holds c = (omega arith, rows-none (c .before .args .d) (now (c .before .args .cells)))
@@ -35,7 +29,13 @@ slice-read-before : tie.Need-slice-read-before Inv-loop μ-loop
 slice-read-before c = omega (arith, c .before .before .loop .inv .1 .size)
 
 settle-row-requires : tie.Need-settle-row-requires Inv-loop μ-loop
-settle-row-requires c κs = (omega arith, few (c .before .before), omega arith, omega (arith, c .before .before .before .loop .inv .1 .size))
+settle-row-requires c κs =
+    let s = c .before .before .before .before .before in
+    let l = c .before .before .before .loop in
+    let r = l .inv .1 in (
+      (omega arith, omega arith, omega (arith, r .size)),
+      λ g small. union-same g (now (s .args .cells)) (l .cells) small (s .pre .1 g small) (λ i h k. r .later i (omega arith) (inl (omega arith))),
+    )
 
 add-cells : tie.Need-add-cells Inv-loop μ-loop
 add-cells c = search needs

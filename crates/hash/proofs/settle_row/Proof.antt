@@ -1,67 +1,30 @@
--- `hash::settle_row` meets its contract. The loop's invariant: the cells that are not left have the moves up to d + 56.
+-- `hash::settle_row` meets its contract. The loop's invariant: the cells of the groups before g have the moves up to d + 57.
 -- Assumes nothing.
 use borrow.Author.Needs.{needs}
-use mathlib.Core.Path.{_≡_, sym, ap, _∙_}
-use Prim.Native.Nat.{ℕ, _+_, _-_, _*_, _/_, _^_, _≤_, _<_}
+use mathlib.Core.Path.{_≡_, sym, ap}
+use mathlib.Core.Logic.{⊎-elim}
+use Prim.Native.Nat.{ℕ, _+_, _-_, _*_, _/_, _^_, _≤_}
 use native.Mathlib.Omega.{arith}
 use denote.Ref.{now}
-use lib.Bits.{bitAnd, and-le-l, and-le-r}
-use lib.Count.{trailingZeros, trailing-le}
+use lib.Bits.{bitAnd}
 use lib.ListN.{getD}
-use lib.Pow.{shr-le}
 use Rattle.rules.specs.Pattern.{Pattern}
 use Rattle.matcher.specs.Lined.{Words, Only}
-use Rattle.hash.specs.HashWords.{Row}
-use Rattle.matcher.proofs.SingleBits.{trailing-lt, turn-few}
-use Rattle.matcher.proofs.LinedCells.{only-none, only-set}
-use Rattle.hash.proofs.HashRows.{Entering, movesOf, row-later, entering-none, entering-pass, entering-set, entering-all}
+use Rattle.hash.specs.HashWords.{Row, Part}
+use Rattle.matcher.proofs.LinedCells.{only-none, only-then, words-same}
+use Rattle.hash.proofs.HashWords.{four-lt, union-none}
+use Rattle.hash.proofs.HashRows.{part-none, part-all, part-pass}
 use Rattle.hash.proofs.settle_row.Statement.{statement}
 use Rattle.hash.proofs.settle_row.Tie as tie
 
 abbrev Inv-loop : tie.InvT-loop
-Inv-loop cells₀ high unset d later left₀ kept₀ cells left kept =
-    (left < 2 ^ 16)
-    × (kept < 2 ^ 16)
+Inv-loop cells₀ high unset d later kept₀ g₀ cells kept g =
+    (g ≤ 4)
     × Only (16 * high) (16 * high + 16) cells₀ cells
-    × ((w : Pattern) → 1 ≤ w .count → Words w d 4 262 cells₀ → Row w d high unset cells₀ → Entering w d high left kept cells)
+    × ((w : Pattern) → 1 ≤ w .count → Words w (d + 1) 4 262 cells₀ → Row w d high unset cells₀ → Part w d high (4 * g) kept cells)
 
 abbrev μ-loop : tie.MeasureT-loop
-μ-loop cells₀ high unset d later left₀ kept₀ cells left kept = left
-
--- the cell of this turn
-low-lt : (c : tie.In-loop Inv-loop μ-loop) → trailingZeros 64 (c .before .loop .left) < 16
-low-lt c = trailing-lt 64 16 (c .before .loop .left) (c .before .loop .inv .0) (c .loop-test .taken)
-
--- its word of moves, by the cells at entry
-moves-is : (c : tie.After-slice-known2 Inv-loop μ-loop)
-    → let a = c .before .before .before .before .before .args in
-    let l = c .before .before .loop in
-    let low = trailingZeros 64 (l .left) in
-    bitAnd (getD (l .cells) (262 + low) 0 / 2 ^ 1) (getD (now (a .cells)) (262 + a .high) 0 / 2 ^ 5) ≡ movesOf (now (a .cells)) (a .high) low
-moves-is c =
-    let a = c .before .before .before .before .before .args in
-    let l = c .before .before .loop in
-    ap (λ (x : ℕ). bitAnd (x / 2 ^ 1) (getD (now (a .cells)) (262 + a .high) 0 / 2 ^ 5)) (l .inv .2 .high (262 + trailingZeros 64 (l .left)) (omega arith))
-
-moves-lt : (c : tie.After-slice-known2 Inv-loop μ-loop)
-    → let a = c .before .before .before .before .before .args in
-    movesOf (now (a .cells)) (a .high) (trailingZeros 64 (c .before .before .loop .left)) < 2 ^ 64
-moves-lt c =
-    let s = c .before .before .before .before in
-    let a = s .before .args in
-    let x = getD (now (a .cells)) (262 + a .high) 0 in
-    omega (arith, and-le-r (getD (now (a .cells)) (262 + trailingZeros 64 (c .before .before .loop .left)) 0 / 2 ^ 1) (x / 2 ^ 5), shr-le x 5, s .slice-known .given (262 + a .high))
-
--- its lowest bit
-few-moves : (c : tie.After-slice-known2 Inv-loop μ-loop)
-    → let a = c .before .before .before .before .before .args in
-    let l = c .before .before .loop in
-    trailingZeros 64 (bitAnd (getD (l .cells) (262 + trailingZeros 64 (l .left)) 0 / 2 ^ 1) (getD (now (a .cells)) (262 + a .high) 0 / 2 ^ 5)) ≤ 64
-few-moves c = trailing-le 64 _
-
--- what is left falls
-less : (x : ℕ) → (x ≡ 0 → ⊥) → bitAnd x (x - 1) < x
-less x some = omega (arith, and-le-r x (x - 1), some)
+μ-loop cells₀ high unset d later kept₀ g₀ cells kept g = 4 - g
 
 add-later : tie.Need-add-later Inv-loop μ-loop
 add-later c = search needs
@@ -72,101 +35,76 @@ mul-later c = search needs
 slice-read-later : tie.Need-slice-read-later Inv-loop μ-loop
 slice-read-later c = search needs
 
-returns : tie.Need-returns Inv-loop μ-loop
-returns c =
-    let a = c .before .before .args in
-    record {
-      row = λ w long words r. row-later w long (a .d) (now (a .cells)) words (a .high) (omega arith) (c .if1 .taken) r;
-      only = only-none;
-    }
-
 loop-holds : tie.Need-loop-holds Inv-loop μ-loop
-loop-holds c = (omega arith, omega arith, only-none, λ w long words r. entering-none r)
+loop-holds c = (omega arith, only-none, λ w long words r. part-none r)
 
-cast-low : tie.Need-cast-low Inv-loop μ-loop
-cast-low c = omega (arith, low-lt c)
+mul-set : tie.Need-mul-set Inv-loop μ-loop
+mul-set c = search needs
 
-sub-left : tie.Need-sub-left Inv-loop μ-loop
-sub-left c = search needs
+shr-set : tie.Need-shr-set Inv-loop μ-loop
+shr-set c = search needs
 
-add-moves : tie.Need-add-moves Inv-loop μ-loop
-add-moves c = omega (arith, low-lt c)
+mul-if1 : tie.Need-mul-if1 Inv-loop μ-loop
+mul-if1 c = search needs
 
-mul-moves : tie.Need-mul-moves Inv-loop μ-loop
-mul-moves c = omega (arith, low-lt c)
+add-if1 : tie.Need-add-if1 Inv-loop μ-loop
+add-if1 c = search needs
 
-slice-read-moves : tie.Need-slice-read-moves Inv-loop μ-loop
-slice-read-moves c = omega (arith, low-lt (c .before), c .before .before .loop .inv .2 .size)
+add-if1-2 : tie.Need-add-if1-2 Inv-loop μ-loop
+add-if1-2 c = omega (arith, four-lt (c .before .loop .kept) (c .before .loop .g))
 
-add-cells : tie.Need-add-cells Inv-loop μ-loop
-add-cells c = search needs
+mul-if1-2 : tie.Need-mul-if1-2 Inv-loop μ-loop
+mul-if1-2 c = omega (arith, four-lt (c .before .loop .kept) (c .before .loop .g))
 
-add-cells-2 : tie.Need-add-cells-2 Inv-loop μ-loop
-add-cells-2 c = omega (arith, few-moves (c .before))
+slice-read-if1 : tie.Need-slice-read-if1 Inv-loop μ-loop
+slice-read-if1 c = let l = c .before .before .loop in omega (arith, four-lt (l .kept) (l .g), l .inv .1 .size)
 
-cast-cells : tie.Need-cast-cells Inv-loop μ-loop
-cast-cells c = omega (arith, few-moves (c .before))
+settle-four-requires : tie.Need-settle-four-requires Inv-loop μ-loop
+settle-four-requires c κs =
+    let a = c .before .before .before .before .before .before .before .args in
+    let u = c .before .before .before .before .loop .inv .1 in
+    ((omega arith, omega arith, omega arith, omega (arith, u .size)), ap (λ (x : ℕ). x / 16) (sym (u .high (262 + a .high) (omega arith))))
 
-mul-cells : tie.Need-mul-cells Inv-loop μ-loop
-mul-cells c = search needs
-
-add-cells-3 : tie.Need-add-cells-3 Inv-loop μ-loop
-add-cells-3 c = omega (arith, low-lt (c .before .before))
-
-mul-cells-2 : tie.Need-mul-cells-2 Inv-loop μ-loop
-mul-cells-2 c = omega (arith, low-lt (c .before .before))
-
-slice-write-cells : tie.Need-slice-write-cells Inv-loop μ-loop
-slice-write-cells c = omega (arith, low-lt (c .before .before), c .before .before .before .loop .inv .2 .size)
-
-shl-kept : tie.Need-shl-kept Inv-loop μ-loop
-shl-kept c = omega (arith, low-lt (c .before .before))
+add-g : tie.Need-add-g Inv-loop μ-loop
+add-g c = search needs
 
 loop-less : tie.Need-loop-less Inv-loop μ-loop
-loop-less c = less (c .before .before .before .loop .left) (c .before .before .loop-test .taken)
+loop-less c = search needs
 
 loop-again : tie.Need-loop-again Inv-loop μ-loop
 loop-again c =
-    let a = c .before .before .before .before .before .before .args in
+    let s = c .before .before .before .before .before .before in
+    let a = s .args in
     let l = c .before .before .before .loop in
-    let low = trailingZeros 64 (l .left) in
-    let inside = low-lt (c .before .before) in (
-      omega (arith, and-le-l (l .left) (l .left - 1)),
-      turn-few (l .kept) low (omega arith) 16 (l .inv .1) inside,
-      only-set (16 * a .high + low) _ (l .inv .2) (omega arith) (omega arith),
+    let next : 4 * (l .g + 1) ≡ 4 * l .g + 4 = omega arith in
+    ⊎-elim
+    (λ t.
+    rw (t .5, t .6, next) (
+      omega arith,
+      only-then (l .inv .1) (t .2 .ensures .only),
       λ w long words r.
-          rw (moves-is (c .before))
-          (entering-set w long (a .d) (now (a .cells)) words (a .high) (omega arith) (l .left) (l .kept) (l .cells) (l .inv .0)
-          (c .before .before .loop-test .taken) (l .inv .3 w long words r) (moves-lt (c .before)) (λ z. c .if2 .taken (moves-is (c .before) ∙ z))
-          (omega (arith, l .inv .2 .size))),
-    )
-
-loop-less-2 : tie.Need-loop-less-2 Inv-loop μ-loop
-loop-less-2 c = less (c .before .before .before .loop .left) (c .before .before .loop-test .taken)
-
-loop-again-2 : tie.Need-loop-again-2 Inv-loop μ-loop
-loop-again-2 c =
-    let a = c .before .before .before .before .before .before .args in
-    let l = c .before .before .before .loop in
-    let low = trailingZeros 64 (l .left) in (
-      omega (arith, and-le-l (l .left) (l .left - 1)),
+          t .2 .ensures .part w long
+          (words-same w (a .d + 1) 4 262 (now (a .cells)) (l .cells) words (λ i g k. l .inv .1 .high i (omega arith))) (l .inv .2 w long words r),
+    ))
+    (λ t.
+    let set = bitAnd (l .kept / 2 ^ (4 * l .g)) 15 in
+    let read : getD (l .cells) (278 + 16 * l .g + set) 0 ≡ getD (now (a .cells)) (278 + 16 * l .g + set) 0 = l .inv .1 .high (278 + 16 * l .g + set) (omega arith) in
+    rw (t .1, t .2, next) (
+      omega arith,
       l .inv .1,
-      l .inv .2,
       λ w long words r.
-          entering-pass w long (a .d) (now (a .cells)) words (a .high) (omega arith) (l .left) (l .kept) (l .cells) (l .inv .0)
-          (c .before .before .loop-test .taken) (l .inv .3 w long words r) (sym (moves-is (c .before)) ∙ c .if2 .left),
-    )
+          part-pass w long (a .d) (now (a .cells)) words (a .high) (omega arith) (4 * l .g + 4) (omega arith) (l .inv .2 w long words r)
+          (union-none (l .kept) (l .g) (now (a .cells)) (getD (now (a .cells)) (262 + a .high) 0 / 2 ^ 4) (s .pre .1 (l .g) (omega arith)) (rw read at (t .0 .left))),
+    ))
+    (c .if1 .came)
 
 same-length : tie.Need-same-length Inv-loop μ-loop
-same-length c = c .before .loop .inv .2 .size
+same-length c = c .before .loop .inv .1 .size
 
-returns-2 : tie.Need-returns-2 Inv-loop μ-loop
-returns-2 c =
+returns : tie.Need-returns Inv-loop μ-loop
+returns c =
     let l = c .before .loop in
-    record {
-      row = λ w long words r. entering-all (l .inv .3 w long words r) (c .loop-test .left) (l .inv .1);
-      only = l .inv .2;
-    }
+    record { row = λ w long words r. part-all (l .inv .2 w long words r) (omega arith); only = l .inv .1 }
 
 pub settle-row-spec : {M : Type 1} → statement M
 settle-row-spec =
@@ -177,24 +115,17 @@ settle-row-spec =
     add-later
     mul-later
     slice-read-later
-    returns
     loop-holds
-    cast-low
-    sub-left
-    add-moves
-    mul-moves
-    slice-read-moves
-    add-cells
-    add-cells-2
-    cast-cells
-    mul-cells
-    add-cells-3
-    mul-cells-2
-    slice-write-cells
-    shl-kept
+    mul-set
+    shr-set
+    mul-if1
+    add-if1
+    add-if1-2
+    mul-if1-2
+    slice-read-if1
+    settle-four-requires
+    add-g
     loop-less
     loop-again
-    loop-less-2
-    loop-again-2
     same-length
-    returns-2)
+    returns)

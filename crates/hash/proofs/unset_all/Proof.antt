@@ -15,20 +15,20 @@ use Rattle.hash.proofs.unset_all.Statement.{statement}
 use Rattle.hash.proofs.unset_all.Tie as tie
 
 abbrev Passed : List ℕ → ℕ → Type 0
-Passed cells high = (h : ℕ) → h < high → getD cells (278 + h) 0 ≡ 65535
+Passed cells high = (h : ℕ) → h < high → getD cells (342 + h) 0 ≡ 65535
 
 abbrev Inv-loop : tie.InvT-loop
-Inv-loop cells₀ high₀ cells high = (high ≤ 16) × Only 278 294 cells₀ cells × Passed cells high
+Inv-loop cells₀ high₀ cells high = (high ≤ 16) × Only 342 358 cells₀ cells × Passed cells high
 
 abbrev μ-loop : tie.MeasureT-loop
 μ-loop cells₀ high₀ cells high = 16 - high
 
-passed-more : (cells : List ℕ) (high : ℕ) → Passed cells high → 278 + high < length cells → Passed (set cells (278 + high) 65535) (high + 1)
+passed-more : (cells : List ℕ) (high : ℕ) → Passed cells high → 342 + high < length cells → Passed (set cells (342 + high) 65535) (high + 1)
 passed-more cells high p room h l = go (eq-or-below (omega arith))
   where
-    go : (h ≡ high) ⊎ (h < high) → getD (set cells (278 + high) 65535) (278 + h) 0 ≡ 65535
-    go (inl e) = rw e (getD-set-same cells (278 + high) 65535 0 room)
-    go (inr g) = getD-set-other cells (278 + high) (278 + h) 65535 0 (λ e. absurd (omega arith)) ∙ p h g
+    go : (h ≡ high) ⊎ (h < high) → getD (set cells (342 + high) 65535) (342 + h) 0 ≡ 65535
+    go (inl e) = rw e (getD-set-same cells (342 + high) 65535 0 room)
+    go (inr g) = getD-set-other cells (342 + high) (342 + h) 65535 0 (λ e. absurd (omega arith)) ∙ p h g
 
 loop-holds : tie.Need-loop-holds Inv-loop μ-loop
 loop-holds c = (omega arith, only-none, λ h l. absurd (omega arith))
@@ -52,7 +52,7 @@ loop-again : tie.Need-loop-again Inv-loop μ-loop
 loop-again c =
     let l = c .before .loop in (
       omega arith,
-      only-set (278 + l .high) 65535 (l .inv .1) (omega arith) (omega arith),
+      only-set (342 + l .high) 65535 (l .inv .1) (omega arith) (omega arith),
       passed-more (l .cells) (l .high) (l .inv .2) (omega (arith, l .inv .1 .size)),
     )
 

@@ -1,10 +1,11 @@
 -- `plain::prepare` meets its contract. The loop's invariant: the cells before 16 k are made.
 -- Assumes nothing.
 use borrow.Author.Needs.{needs}
-use Prim.Native.Nat.{_-_, _≤_}
+use Prim.Native.Nat.{ℕ, _-_, _*_, _≤_}
 use native.Mathlib.Omega.{arith}
-use mathlib.Core.Path.{_≡_}
+use mathlib.Core.Path.{_≡_, ap, _∙_}
 use denote.Ref.{now}
+use Rattle.bits.specs.Packed.{bitsAt}
 use Rattle.matcher.specs.Tables.{rowChunks}
 use Rattle.matcher.specs.Progress.{patternOf}
 use Rattle.plain.proofs.RowsMade.{Made, made-none, mask-holds, row-holds, made-more, made-all}
@@ -26,11 +27,8 @@ loop-holds c = let a = c .before .before .before .args in (omega arith, made-non
 ones-requires : tie.Need-ones-requires Inv-loop μ-loop
 ones-requires c κs = search needs
 
-mul-t14-2 : tie.Need-mul-t14-2 Inv-loop μ-loop
-mul-t14-2 c = search needs
-
-word-at-requires-2 : tie.Need-word-at-requires-2 Inv-loop μ-loop
-word-at-requires-2 c κs = search needs
+word-near-end-requires-2 : tie.Need-word-near-end-requires-2 Inv-loop μ-loop
+word-near-end-requires-2 c κs = omega (arith, c .before .before .byte .ensures)
 
 cast-fill : tie.Need-cast-fill Inv-loop μ-loop
 cast-fill c = search needs
@@ -46,13 +44,15 @@ loop-less c = search needs
 
 loop-again : tie.Need-loop-again Inv-loop μ-loop
 loop-again c =
-    let a = c .before .before .before .before .before .before .before .before .before .before .before .before .args in
-    let l = c .before .before .before .before .before .before .before .before .loop in
+    let a = c .before .before .before .before .before .before .before .before .before .before .before .before .before .args in
+    let l = c .before .before .before .before .before .before .before .before .before .loop in
     let w = patternOf (now (a .pattern)) (now (a .fixed)) (a .m) in
-    let ms = mask-holds w (l .k) _ _ (c .before .before .before .before .before .ones .ensures) (c .before .before .before .before .before .before .word-at .ensures) in (
+    let there : c .before .before .before .before .before .before .before .byte .result .0 * 8 ≡ 64 * l .k = omega (arith, c .before .before .before .before .before .before .before .byte .ensures) in
+    let second = c .before .before .before .before .before .before .word-near-end .ensures ∙ ap (λ (p : ℕ). bitsAt (now (a .fixed)) p 64) there in
+    let first = c .before .before .before .before .word-near-end2 .ensures ∙ ap (λ (p : ℕ). bitsAt (now (a .pattern)) p 64) there in
+    let ms = mask-holds w (l .k) _ _ (c .before .before .before .before .before .ones .ensures) second in (
       omega arith,
-      made-more w (l .k) (l .prev) (l .prev-mask) _ _ (now (a .cells)) (l .cells) _ (l .inv .1)
-          (row-holds w (l .k) _ _ ms (c .before .before .before .before .word-at2 .ensures)) ms (c .before .before .fill .ensures),
+      made-more w (l .k) (l .prev) (l .prev-mask) _ _ (now (a .cells)) (l .cells) _ (l .inv .1) (row-holds w (l .k) _ _ ms first) ms (c .before .before .fill .ensures),
     )
 
 same-length : tie.Need-same-length Inv-loop μ-loop
@@ -68,8 +68,11 @@ returns c =
 mul-t14 : tie.Need-mul-t14 Inv-loop μ-loop
 mul-t14 c = search needs
 
-word-at-requires : tie.Need-word-at-requires Inv-loop μ-loop
-word-at-requires c κs = search needs
+byte-requires : tie.Need-byte-requires Inv-loop μ-loop
+byte-requires c κs = search needs
+
+word-near-end-requires : tie.Need-word-near-end-requires Inv-loop μ-loop
+word-near-end-requires c κs = omega (arith, c .byte .ensures)
 
 pub prepare-spec : {M : Type 1} → statement M
 prepare-spec =
@@ -80,10 +83,10 @@ prepare-spec =
     add-chunks
     loop-holds
     mul-t14
-    word-at-requires
+    byte-requires
+    word-near-end-requires
     ones-requires
-    mul-t14-2
-    word-at-requires-2
+    word-near-end-requires-2
     cast-fill
     fill-requires
     add-k

@@ -1,240 +1,71 @@
--- `skip::advance` meets its contract. The loop's invariant: the steps made are written, the mark is 1 more than a multiple of 8,
--- and b is its last byte.
+-- `skip::advance` meets its contract: no step from another mark than 8 a + 1, else many by the tables of either kind.
 -- Assumes nothing.
 use borrow.Author.Needs.{needs}
-use Prim.Native.Nat.{ℕ, _+_, _-_, _*_, _/_, _%_, _≤_, _<_, _^_}
-use mathlib.Core.Path.{_≡_, refl, sym, _∙_}
-use mathlib.Core.Bool.{false}
-use native.Mathlib.Nat.{mul-comm}
+use mathlib.Core.Path.{sym, _∙_}
 use native.Mathlib.Omega.{arith}
 use denote.Ref.{now}
-use borrow.Author.Tests.{ltb-true}
-use lib.Dec.{lit<}
-use lib.ListN.{length}
-use Rattle.bits.specs.Packed.{Packed}
 use Rattle.rules.specs.declared.Method.the-variants.{Skip}
-use Rattle.rules.specs.Pattern.{Pattern}
-use Rattle.rules.specs.Occurrence.{places}
-use Rattle.matcher.specs.Progress.{textIn, patternIn, Stepped, Advanced}
-use Rattle.matcher.proofs.Writing.{writing-length}
-use Rattle.matcher.proofs.Advancing.{counted, advanced-none, advanced-step}
-use Rattle.rules.proofs.Skip.{reaches-byte}
-use Rattle.skip.proofs.SkipChain.{byte-from, next-byte, next-fits}
-use Rattle.skip.proofs.SkipSizes.{Sizes, sizes, byte-asked, end-fits, long-enough}
-use Rattle.skip.proofs.SkipStep.{below-end, mark-from, turn-whole}
+use Rattle.matcher.specs.Progress.{textIn, patternIn}
+use Rattle.matcher.proofs.Advancing.{advanced-none}
 use Rattle.skip.proofs.advance.Statement.{statement}
 use Rattle.skip.proofs.advance.Tie as tie
 
-abbrev Inv-loop : tie.InvT-loop
-Inv-loop text pattern fixed known cells budget list₀ had end stride kind at₀ b₀ steps₀ hits₀ list at b steps hits =
-    let t = textIn text known in
-    let w = patternIn pattern fixed known in
-    (at % 8 ≡ 1) × (b .0 ≡ (at + known .m) / 8 - 1) × Advanced Skip t w at₀ budget list₀ had at steps hits false list
-
-abbrev μ-loop : tie.MeasureT-loop
-μ-loop text pattern fixed known cells budget list₀ had end stride kind at₀ b₀ steps₀ hits₀ list at b steps hits = budget - steps
-
--- text and pattern
-abbrev text : tie.Start Inv-loop μ-loop → Packed
-text s = textIn (now (s .args .text)) (s .args .known)
-
-abbrev pattern : tie.Start Inv-loop μ-loop → Pattern
-pattern s = patternIn (now (s .args .pattern)) (now (s .args .fixed)) (s .args .known)
-
--- all places of the turn lie below E
-due : (c : tie.Then2 Inv-loop μ-loop) → let s = c .before .before .before .before .before .before .before .before .before .before .before .before .before .before .before .before .before in 8 * c .before .before .before .loop .b .0 < places (text s) (pattern s)
-due c = below-end _ _ _ (c .before .before .before .before .before .before .before .before .before .before .before .before .before .before .before .before .before .pre .0 .inside) (rw (c .before .before .place .ensures ∙ mul-comm _ 8) at (c .if2 .taken))
-
--- so the mark does
-mark-due : (c : tie.Then2 Inv-loop μ-loop) → let s = c .before .before .before .before .before .before .before .before .before .before .before .before .before .before .before .before .before in c .before .before .before .loop .at < places (text s) (pattern s)
-mark-due c =
-    let s = c .before .before .before .before .before .before .before .before .before .before .before .before .before .before .before .before .before in
-    let l = c .before .before .before .loop in
-    omega (arith, due c, l .inv .1, reaches-byte (pattern s) (l .at) (long-enough _ _ _ (s .pre .0)))
-
--- the numbers of the turn fit
-fitting : (c : tie.Then2 Inv-loop μ-loop)
-    → let a = c .before .before .before .before .before .before .before .before .before .before .before .before .before .before .before .before .before .args in
-    Sizes (c .before .before .before .loop .at) (a .known .n) (a .known .m) (length (now (a .text))) (c .before .before .before .loop .b .0)
-fitting c = sizes _ _ _ (c .before .before .before .before .before .before .before .before .before .before .before .before .before .before .before .before .before .pre .0) (c .before .before .before .loop .at) (c .before .before .before .loop .b .0) (c .before .before .before .loop .inv .1) (mark-due c)
-
--- the budget has a step left
-left : (c : tie.Then3 Inv-loop μ-loop) → c .before .before .before .before .loop .steps < c .before .before .before .before .before .before .before .before .before .before .before .before .before .before .before .before .before .before .args .budget
-left c = ltb-true _ _ (c .if3 .taken)
-
--- the list has the cells that are written
-written : (c : tie.At-loop Inv-loop μ-loop) → c .loop .hits ≤ length (c .loop .list)
-written c =
-    let u = c .loop .inv .2 .writing in
-    let size = writing-length _ _ _ _ _ u in
-    omega (arith, size, u .fits)
-
-sub-end : tie.Need-sub-end Inv-loop μ-loop
-sub-end c = c .before .before .before .before .before .before .pre .0 .inside
-
-add-end : tie.Need-add-end Inv-loop μ-loop
-add-end c = record { fits = end-fits _ _ _ (c .before .before .before .before .before .before .pre .0) }
-
-indices-requires : tie.Need-indices-requires Inv-loop μ-loop
-indices-requires c κs =
-    let r = c .before .before .before .before .before .before .pre .0 in
-    (long-enough _ _ _ r, r .pattern .few-bits)
-
-byte-requires : tie.Need-byte-requires Inv-loop μ-loop
-byte-requires c κs = search needs
-
-cast-kind : tie.Need-cast-kind Inv-loop μ-loop
-cast-kind c = omega (arith, c .before .before .before .before .before .before .before .before .before .pre .0 .pattern .few-bits)
-
-add-kind : tie.Need-add-kind Inv-loop μ-loop
-add-kind c = omega (arith, c .before .before .before .before .before .before .before .before .before .pre .0 .pattern .few-bits)
-
-mul-kind : tie.Need-mul-kind Inv-loop μ-loop
-mul-kind c = omega (arith, c .before .before .before .before .before .before .before .before .before .pre .0 .pattern .few-bits)
-
-shared-slice-read-kind : tie.Need-shared-slice-read-kind Inv-loop μ-loop
-shared-slice-read-kind c = omega (arith, c .before .before .before .before .before .before .before .before .before .before .pre .0 .room)
-
-offset-requires : tie.Need-offset-requires Inv-loop μ-loop
+offset-requires : tie.Need-offset-requires
 offset-requires c κs = search needs
 
-returns : tie.Need-returns Inv-loop μ-loop
+returns : tie.Need-returns
 returns c =
-    let s = c .before .before .before .before .before .before .before .before .before .before .before .before in
+    let s = c .before .before .before .before .before .before .before in
     let a = s .args in
-    advanced-none Skip (text s) (pattern s) (a .s .0) (a .budget) (now (a .list)) (a .had) (s .pre .1 .1 .1) (s .pre .1 .1 .0)
+    advanced-none Skip (textIn (now (a .text)) (a .known)) (patternIn (now (a .pattern)) (now (a .fixed)) (a .known)) (a .s .0) (a .budget) (now (a .list)) (a .had) (s .pre .1 .1 .1) (s .pre .1 .1 .0)
 
-last-byte-requires : tie.Need-last-byte-requires Inv-loop μ-loop
-last-byte-requires c κs =
-    let s = c .before .before .before .before .before .before .before .before .before .before .before .before in
-    byte-asked _ _ _ (s .pre .0) _ (s .pre .1 .1 .0)
+cast-if2 : tie.Need-cast-if2
+cast-if2 c = omega (arith, c .before .before .before .before .before .before .before .before .pre .0 .pattern .few-bits)
 
-loop-holds : tie.Need-loop-holds Inv-loop μ-loop
-loop-holds c =
-    let s = c .before .before .before .before .before .before .before .before .before .before .before .before .before in
-    let a = s .args in
-    (sym (c .before .before .offset .ensures) ∙ c .before .if1 .left, c .last-byte .ensures, advanced-none Skip (text s) (pattern s) (a .s .0) (a .budget) (now (a .list)) (a .had) (s .pre .1 .1 .1) (s .pre .1 .1 .0))
+add-if2 : tie.Need-add-if2
+add-if2 c = omega (arith, c .before .before .before .before .before .before .before .before .pre .0 .pattern .few-bits)
 
-place-requires : tie.Need-place-requires Inv-loop μ-loop
-place-requires c κs =
-    let s = c .before .before .before .before .before .before .before .before .before .before .before .before .before .before in
-    let l = c .loop in
-    last-small (l .b .0) (l .at) (s .args .known .n) (s .args .known .m) (l .inv .1) (l .inv .2 .inside refl) (s .pre .0 .inside) (s .pre .0 .few-bits)
-  where
-    last-small : (b at n m : ℕ) → b ≡ (at + m) / 8 - 1 → at ≤ 1 + n - m → m ≤ n → n ≤ 2 ^ 30 → b < 2 ^ 29
-    last-small b at n m e h l few = omega arith
+mul-if2 : tie.Need-mul-if2
+mul-if2 c = omega (arith, c .before .before .before .before .before .before .before .before .pre .0 .pattern .few-bits)
 
-decide-requires : tie.Need-decide-requires Inv-loop μ-loop
-decide-requires c κs =
-    let l = c .before .before .before .before .before .loop in
-    let s = c .before .before .before .before .before .before .before .before .before .before .before .before .before .before .before .before .before .before .before in
-    let long = long-enough _ _ _ (s .pre .0) in
-    (s .pre .0, (s .pre .1 .0, ((byte-from (l .at) (s .args .known .n) (s .args .known .m) (l .b .0) long (l .inv .1) (l .inv .0), due (c .before .before), written (c .before .before .before .before .before)), refl)))
+shared-slice-read-if2 : tie.Need-shared-slice-read-if2
+shared-slice-read-if2 c = omega (arith, c .before .before .before .before .before .before .before .before .before .pre .0 .room)
 
--- the step from the mark
-stepped : (c : tie.After-decide Inv-loop μ-loop)
-    → let s = c .before .before .before .before .before .before .before .before .before .before .before .before .before .before .before .before .before .before .before .before in
-    let l = c .before .before .before .before .before .before .loop in
-    let r = c .decide .result in
-    Stepped Skip (text s) (pattern s) (l .at) (l .list) (l .hits) (r .at .0) (r .hits) (r .full) (c .decide .last .1 .1 .1 .1 .1 .1 .1 .0)
-stepped c =
-    let l = c .before .before .before .before .before .before .loop in
-    let s = c .before .before .before .before .before .before .before .before .before .before .before .before .before .before .before .before .before .before .before .before in
-    rw (mark-from (text s) (pattern s) (l .at) (l .b .0) (long-enough _ _ _ (s .pre .0)) (l .inv .0) (l .inv .1)) at (c .decide .ensures)
+by-chains-requires : tie.Need-by-chains-requires
+by-chains-requires c κs =
+    let s = c .before .before .before .before .before .before .before .before .before .before .before in
+    (s .pre .0, (s .pre .1 .0, (s .pre .1 .1, (sym (c .before .before .before .before .before .offset .ensures) ∙ c .before .before .before .before .if1 .left, s .pre .0 .tables .chains (c .before .if2 .taken)))))
 
--- the steps with the one that this turn makes
-turned : (c : tie.After-decide Inv-loop μ-loop)
-    → let s = c .before .before .before .before .before .before .before .before .before .before .before .before .before .before .before .before .before .before .before .before in
-    let a = s .args in
-    let r = c .decide .result in
-    Advanced Skip (text s) (pattern s) (a .s .0) (a .budget) (now (a .list)) (a .had) (r .at .0) (counted (r .full) (c .before .before .before .before .before .before .loop .steps)) (r .hits) (r .full) (c .decide .last .1 .1 .1 .1 .1 .1 .1 .0)
-turned c =
-    let l = c .before .before .before .before .before .before .loop in
-    let s = c .before .before .before .before .before .before .before .before .before .before .before .before .before .before .before .before .before .before .before .before in
-    let a = s .args in
-    advanced-step Skip (text s) (pattern s) (a .s .0) (a .budget) (now (a .list)) (a .had) (l .at) (l .steps) (l .hits) (l .list) (s .pre .1 .1 .1)
-    (l .inv .2) _ _ _ _ (mark-due (c .before .before .before)) (left (c .before .before)) (stepped c)
+same-length : tie.Need-same-length
+same-length c = search needs
 
-same-length : tie.Need-same-length Inv-loop μ-loop
-same-length c = writing-length _ _ _ _ _ (turned (c .before .before .before .before) .writing)
+returns-2 : tie.Need-returns-2
+returns-2 c = search needs
 
-returns-2 : tie.Need-returns-2 Inv-loop μ-loop
-returns-2 c = rw (c .before .if4 .taken) at (turned (c .before .before .before .before))
+by-words-requires : tie.Need-by-words-requires
+by-words-requires c κs =
+    let s = c .before .before .before .before .before .before .before .before .before .before .before in
+    (s .pre .0, (s .pre .1 .0, (s .pre .1 .1, (sym (c .before .before .before .before .before .offset .ensures) ∙ c .before .before .before .before .if1 .left, s .pre .0 .tables .words (c .before .if2 .left)))))
 
-add-steps : tie.Need-add-steps Inv-loop μ-loop
-add-steps c = omega (arith, left (c .before .before .before .before .before), c .before .before .before .before .before .before .before .before .before .before .before .before .before .before .before .before .before .before .before .before .before .before .before .fits .budget)
+same-length-2 : tie.Need-same-length-2
+same-length-2 c = search needs
 
-place-at-requires : tie.Need-place-at-requires Inv-loop μ-loop
-place-at-requires c κs = (fitting (c .before .before .before .before .before .before) .small, lit< tt)
-
-add-t34 : tie.Need-add-t34 Inv-loop μ-loop
-add-t34 c =
-    let i = c .before .before .before .before .before .before .before .before .before .before .before .before .before .before .before .before .before in
-    let f = fitting (c .before .before .before .before .before .before .before .before) in
-    omega (arith, f .small, next-fits _ _ _ _ (f .goes-on) (i .before .indices .ensures) (i .byte .ensures))
-
-loop-less : tie.Need-loop-less Inv-loop μ-loop
-loop-less c = omega (arith, left (c .before .before .before .before .before .before .before))
-
-loop-again : tie.Need-loop-again Inv-loop μ-loop
-loop-again c =
-    let k = c .before .before .before .before .before .before .before .before in
-    let l = c .before .before .before .before .before .before .before .before .before .before .before .loop in
-    let i = c .before .before .before .before .before .before .before .before .before .before .before .before .before .before .before .before .before in
-    let s = c .before .before .before .before .before .before .before .before .before .before .before .before .before .before .before .before .before .before .before .before .before .before .before .before .before in
-    let a = s .args in
-    let top = c .before .place-at .ensures in
-    let long = long-enough _ _ _ (s .pre .0) in (
-      odd (l .b .0) _ top,
-      next-byte (l .b .0) (a .known .m) _ _ _ long (i .before .indices .ensures) (i .byte .ensures) top,
-      rw top
-          (turn-whole (text s) (pattern s) (a .s .0) (a .budget) (now (a .list)) (a .had) (l .at) (l .steps) (l .hits) (l .list) (s .pre .1 .1 .1)
-          (l .inv .2) (left (c .before .before .before .before .before .before .before)) long (l .b .0) (l .inv .1) (due k) _ _ _ (rw (c .before .before .if4 .left) at (stepped (c .before .before .before .before .before)))),
-    )
-  where
-    odd : (b at : ℕ) → at ≡ 8 * b + 1 → at % 8 ≡ 1
-    odd b at e = omega arith
-
-same-length-2 : tie.Need-same-length-2 Inv-loop μ-loop
-same-length-2 c = writing-length _ _ _ _ _ (c .before .before .before .before .loop .inv .2 .writing)
-
-returns-3 : tie.Need-returns-3 Inv-loop μ-loop
-returns-3 c = c .before .before .before .before .loop .inv .2
-
-same-length-3 : tie.Need-same-length-3 Inv-loop μ-loop
-same-length-3 c = writing-length _ _ _ _ _ (c .before .before .before .loop .inv .2 .writing)
-
-returns-4 : tie.Need-returns-4 Inv-loop μ-loop
-returns-4 c = c .before .before .before .loop .inv .2
+returns-3 : tie.Need-returns-3
+returns-3 c = search needs
 
 pub advance-spec : {M : Type 1} → statement M
 advance-spec =
     tie.close
     (tie.spec
-    Inv-loop
-    μ-loop
-    sub-end
-    add-end
-    indices-requires
-    byte-requires
-    cast-kind
-    add-kind
-    mul-kind
-    shared-slice-read-kind
     offset-requires
     returns
-    last-byte-requires
-    loop-holds
-    place-requires
-    decide-requires
+    cast-if2
+    add-if2
+    mul-if2
+    shared-slice-read-if2
+    by-chains-requires
     same-length
     returns-2
-    add-steps
-    place-at-requires
-    add-t34
-    loop-less
-    loop-again
+    by-words-requires
     same-length-2
-    returns-3
-    same-length-3
-    returns-4)
+    returns-3)

@@ -2,17 +2,17 @@
 -- occurrences at the places of the others are written.
 -- Assumes nothing.
 use borrow.Author.Needs.{needs}
-use borrow.Author.Tests.{eq-eqb, eqb-true, leb-true, leb-false}
 use Prim.Native.Nat.{ℕ, _+_, _-_, _*_, _^_, _≤_, _<_}
-use mathlib.Core.Path.{_≡_, refl, sym, ap, _∙_}
-use mathlib.Core.Bool.{Bool, true, false, true≢false, not, _||_}
+use mathlib.Core.Path.{_≡_, refl, ap, ap₂, _∙_}
+use mathlib.Core.Bool.{Bool}
 use mathlib.Core.List.{List}
 use native.Mathlib.Nat.{mul-comm}
+use native.Mathlib.Decide.{decLe, ℕ-discrete}
 use native.Mathlib.Omega.{arith}
 use denote.Ref.{now}
 use lib.Bits.{bitAnd, and-le-l, and-le-r}
 use lib.Count.{trailingZeros, trailing-le}
-use lib.Dec.{lit<, eqb, leb}
+use lib.Dec.{lit<}
 use lib.ListN.{length, getD}
 use Rattle.bits.specs.Packed.{Packed, bitsAt}
 use Rattle.rules.specs.Pattern.{Pattern}
@@ -28,37 +28,32 @@ use Rattle.skip.proofs.SkipBelow.{below-is}
 use Rattle.skip.proofs.SkipChain.{chained-fits, chained-near, mark-byte, byteOf, byte-is, walk-by, walk-found, sweep-gap}
 use Rattle.skip.proofs.SkipSizes.{ByteSizes, byte-sizes, long-enough}
 use Rattle.skip.proofs.SkipStep.{below-top, place-fits, place-below, written-more, skip-full, skip-all}
-use Rattle.skip.proofs.SkipWords.{Sweeping, flags-cut, flagging-more, flagging-end, low-fits, lowest-is, flagging-rest}
+use Rattle.skip.proofs.SkipWords.{Sweeping, flags-cut, low-fits, lowest-is, flagging-rest}
 use Rattle.skip.proofs.sweep.Statement.{statement}
 use Rattle.skip.proofs.sweep.Tie as tie
 
 abbrev Inv-loop : tie.InvT-loop
-Inv-loop text pattern fixed known cells b list₀ had byte v m from₀ block₀ f₀ written₀ list from block f written =
-    (f < 2 ^ 64)
-    × (from ≡ 8 * byte + 8 + 57 * block)
-    × Sweeping (textIn text known) (patternIn pattern fixed known) byte v (8 * byte + 1 - chained (known .m)) list₀ had list block f written
+Inv-loop text pattern fixed known cells b list₀ had byte v m from block₀ f₀ written₀ list block f written =
+    (f < 2 ^ 64) × Sweeping (textIn text known) (patternIn pattern fixed known) byte v (8 * byte + 1 - chained (known .m)) list₀ had list block f written
 
 abbrev μ-loop : tie.MeasureT-loop
-μ-loop text pattern fixed known cells b list₀ had byte v m from₀ block₀ f₀ written₀ list from block f written = (known .m - block) * 2 ^ 64 + f
+μ-loop text pattern fixed known cells b list₀ had byte v m from block₀ f₀ written₀ list block f written = (known .m - block) * 2 ^ 64 + f
 
 -- flags that are cut off are as few bits as before
 and-small : (x y : ℕ) → x < 2 ^ 64 → bitAnd x y < 2 ^ 64
 and-small x y h = omega (arith, and-le-l x y)
 
--- another block, or fewer flags
-next-block : (m b f g : ℕ) → b < m → g < 2 ^ 64 → (m - (b + 1)) * 2 ^ 64 + g < (m - b) * 2 ^ 64 + f
-next-block m b f g h l = omega arith
-
--- the loop's test
-more : (f x m : ℕ) → (not (eqb f 0) || leb x m) ≡ true → f ≡ 0 → x ≤ m
-more f x m h e = leb-true x m (rw (eq-eqb f 0 e) at h)
-
-no-more : (f x m : ℕ) → (not (eqb f 0) || leb x m) ≡ false → (f ≡ 0) × (m < x)
-no-more f x m h = go (eqb f 0) refl h
+-- fewer flags, or those of a later block
+fewer-left : (m b f c g h : ℕ) → b ≤ c → c < m → (c ≡ b → g ≡ f) → g < 2 ^ 64 → h < g → (m - c) * 2 ^ 64 + h < (m - b) * 2 ^ 64 + f
+fewer-left m b f c g h l few same small less = go (ℕ-discrete c b)
   where
-    go : (z : Bool) → eqb f 0 ≡ z → (not z || leb x m) ≡ false → (f ≡ 0) × (m < x)
-    go true e q = (eqb-true f 0 e, leb-false x m q)
-    go false e q = absurd (true≢false q)
+    go : Dec (c ≡ b) → (m - c) * 2 ^ 64 + h < (m - b) * 2 ^ 64 + f
+    go (yes e) = let q : g ≡ f = same e in omega arith
+    go (no n) = apart (decLe c b)
+      where
+        apart : Dec (c ≤ b) → (m - c) * 2 ^ 64 + h < (m - b) * 2 ^ 64 + f
+        apart (yes k) = absurd (n (omega arith))
+        apart (no k) = omega arith
 
 -- the text and the pattern
 abbrev text : tie.Start Inv-loop μ-loop → Packed
@@ -101,31 +96,37 @@ index s k h =
     within : (j k x m : ℕ) → j + (x + 1 - k) ≤ x + 1 → k ≤ x → k + 7 ≤ m → j + 7 ≤ m
     within j k x m h g l = omega arith
 
--- The lowest flag: its index, one more than which is j, and its place.
+-- The lowest flag of the next block: its index, one more than which is j, and its place.
 module _ (c : tie.Else1 Inv-loop μ-loop) where
   abbrev start : tie.Start Inv-loop μ-loop
   start = c .before .before .before .before .before .before .before .before .before .before .before .before .before
 
   abbrev f : ℕ
-  f = c .before .before .loop .f
+  f = c .before .next-block .result .left
 
   abbrev block : ℕ
-  block = c .before .before .loop .block
+  block = c .before .next-block .result .number
 
   abbrev v : ℕ
   v = getD (now (start .args .text)) (start .args .b .0) 0
 
-  abbrev u : Sweeping (text start) (pattern start) (start .args .b .0) v (mark start) (now (start .args .list)) (start .args .had) (c .before .before .loop .list) block f (c .before .before .loop .written)
-  u = c .before .before .loop .inv .2
+  abbrev u : Sweeping (text start) (pattern start) (start .args .b .0) v (mark start) (now (start .args .list)) (start .args .had) (c .before .before .loop .list) (c .before .before .loop .block) (c .before .before .loop .f) (c .before .before .loop .written)
+  u = c .before .before .loop .inv .1
 
   abbrev j : ℕ
   j = start .args .known .m - 7 - 57 * block - trailingZeros 64 f
 
+  small : f < 2 ^ 64
+  small = search needs
+
+  flagging : Flagging (pattern start) v (u .k) block f
+  flagging = c .before .next-block .ensures .3 (u .k) (u .flagging) .flagging (c .if1 .left)
+
   fits : 57 * block + trailingZeros 64 f + 8 ≤ start .args .known .m
-  fits = low-fits (pattern start) v (u .k) block f (u .flagging) (c .before .before .loop .inv .0) (c .if1 .left)
+  fits = low-fits (pattern start) v (u .k) block f flagging small (c .if1 .left)
 
   last-is : j ≡ lastShown (pattern start) v (u .k)
-  last-is = lowest-is (pattern start) v (u .k) block f (u .flagging) (c .before .before .loop .inv .0) (c .if1 .left) (index start (u .k) (u .low))
+  last-is = lowest-is (pattern start) v (u .k) block f flagging small (c .if1 .left) (index start (u .k) (u .low))
 
   up : j ≤ u .k
   up = omega (arith, last-is, below-is (showsByte (pattern start) v) (u .k) .within)
@@ -142,10 +143,10 @@ module _ (c : tie.Else1 Inv-loop μ-loop) where
   writing : Writing (now (start .args .list)) (start .args .had) (occurrences (text start) (pattern start) (mark start) (8 * start .args .b .0 + 1 - j)) (c .before .before .loop .list) (c .before .before .loop .written)
   writing = rw gap (u .writing)
 
-  -- as the code has it
-  place-is : c .before .before .loop .from + trailingZeros 64 f - start .args .known .m ≡ 8 * start .args .b .0 + 1 - j
+  -- its place as the code has it
+  place-is : c .before .before .before .before .before .before .place .result .0 + 8 + c .before .next-block .result .far + trailingZeros 64 f - start .args .known .m ≡ 8 * start .args .b .0 + 1 - j
   place-is =
-      ap (λ (x : ℕ). x + trailingZeros 64 f - start .args .known .m) (c .before .before .loop .inv .1)
+      ap (λ (x : ℕ). x + trailingZeros 64 f - start .args .known .m) (ap₂ (λ (x y : ℕ). x + 8 + y) (first-bit (c .before .before .before .before .before .before)) (c .before .next-block .ensures .0))
       ∙ same (8 * start .args .b .0) (start .args .known .m) (57 * block) (trailingZeros 64 f) fits (below j (mark start) (8 * start .args .b .0 + 1) low)
     where
       same : (x m d e : ℕ) → d + e + 8 ≤ m → m - 7 - d - e ≤ x + 1 → x + 8 + d + e - m ≡ x + 1 - (m - 7 - d - e)
@@ -160,31 +161,34 @@ module _ (c : tie.Else1 Inv-loop μ-loop) where
   inside : 8 * start .args .b .0 + 1 - j < 1 + start .args .known .n - start .args .known .m
   inside = place-below _ _ _ some (start .pre .1 .1 .0 .1)
 
+  -- the flags after it are fewer
+  fewer : bitAnd f (f - 1) < f
+  fewer = less f _ (c .if1 .left) (and-le-r f (f - 1))
+    where
+      less : (x y : ℕ) → (x ≡ 0 → ⊥) → y ≤ x - 1 → y < x
+      less x y n l = omega arith
+
+  measured : (start .args .known .m - block) * 2 ^ 64 + bitAnd f (f - 1) < (start .args .known .m - c .before .before .loop .block) * 2 ^ 64 + c .before .before .loop .f
+  measured =
+      let e = c .before .next-block .ensures in
+      fewer-left (start .args .known .m) (c .before .before .loop .block) (c .before .before .loop .f) block f (bitAnd f (f - 1)) (e .1) (omega (arith, fits)) (e .2) small fewer
+
+  -- the flags after it
+  rest : (list : List ℕ) (written : ℕ) → Writing (now (start .args .list)) (start .args .had) (occurrences (text start) (pattern start) (mark start) (8 * start .args .b .0 + 1 - (j - 1))) list written
+      → Sweeping (text start) (pattern start) (start .args .b .0) v (mark start) (now (start .args .list)) (start .args .had) list block (bitAnd f (f - 1)) written
+  rest list written w =
+      record {
+        k = j - 1;
+        low = omega (arith, low);
+        flagging = flagging-rest (pattern start) v (u .k) block f flagging small (c .if1 .left);
+        writing = w;
+      }
+
 -- the comparison's answer
 stands : (c : tie.After-same Inv-loop μ-loop) (x : Bool) → c .same .result ≡ x
-    → let s = c .before .before .before .before .before .before .before .before .before .before .before .before .before .before in
-    occurs (text s) (pattern s) (8 * s .args .b .0 + 1 - j (c .before)) ≡ x
-stands c x e = compared-place _ _ _ _ _ x (rw (place-is (c .before)) at (c .same .ensures)) e (inside (c .before))
-
--- the flags after it
-rest : (c : tie.After-same Inv-loop μ-loop) (list : List ℕ) (written : ℕ)
-    → let s = c .before .before .before .before .before .before .before .before .before .before .before .before .before .before in
-    Writing (now (s .args .list)) (s .args .had) (occurrences (text s) (pattern s) (mark s) (8 * s .args .b .0 + 1 - (j (c .before) - 1))) list written
-    → Sweeping (text s) (pattern s) (s .args .b .0) (v (c .before)) (mark s) (now (s .args .list)) (s .args .had) list (block (c .before)) (bitAnd (f (c .before)) (f (c .before) - 1)) written
-rest c list written w =
-    record {
-      k = j (c .before) - 1;
-      low = omega (arith, low (c .before));
-      flagging = flagging-rest (pattern (start (c .before))) (v (c .before)) (u (c .before) .k) (block (c .before)) (f (c .before)) (u (c .before) .flagging) (c .before .before .before .loop .inv .0) (c .before .if1 .left);
-      writing = w;
-    }
-
--- they are fewer
-fewer : (c : tie.Else1 Inv-loop μ-loop) → bitAnd (f c) (f c - 1) < f c
-fewer c = less (f c) _ (c .if1 .left) (and-le-r (f c) (f c - 1))
-  where
-    less : (x y : ℕ) → (x ≡ 0 → ⊥) → y ≤ x - 1 → y < x
-    less x y n l = omega arith
+    → let s = c .before .before .before .before .before .before .before .before .before .before .before .before .before .before .before in
+    occurs (text s) (pattern s) (8 * s .args .b .0 + 1 - j (c .before .before)) ≡ x
+stands c x e = compared-place _ _ _ _ _ x (rw (place-is (c .before .before)) at (c .same .ensures)) e (inside (c .before .before))
 
 shared-slice-read-v : tie.Need-shared-slice-read-v Inv-loop μ-loop
 shared-slice-read-v c = fitting (c .before .before .before .before .before .before) .there
@@ -222,7 +226,6 @@ loop-holds c =
     let w = getD (now (a .text)) (a .b .0) 0 in
     let fits : c .before .flags .result < 2 ^ 64 = search needs in (
       and-small (c .before .flags .result) _ fits,
-      omega (arith, first-bit (c .before .before .before)),
       record {
         k = k;
         low = omega (arith, s .pre .1 .1 .0 .0);
@@ -236,140 +239,110 @@ loop-holds c =
       },
     )
 
-mul-loop : tie.Need-mul-loop Inv-loop μ-loop
-mul-loop c = omega (arith, c .loop .inv .2 .flagging .inside, c .before .before .before .before .before .before .before .before .before .before .before .pre .0 .pattern .few-bits)
-
-add-loop : tie.Need-add-loop Inv-loop μ-loop
-add-loop c = omega (arith, c .loop .inv .2 .flagging .inside, c .before .before .before .before .before .before .before .before .before .before .before .pre .0 .pattern .few-bits)
-
-add-block : tie.Need-add-block Inv-loop μ-loop
-add-block c = omega (arith, c .before .before .loop .inv .2 .flagging .inside, c .before .before .before .before .before .before .before .before .before .before .before .before .before .pre .0 .pattern .few-bits)
-
-add-from-2 : tie.Need-add-from-2 Inv-loop μ-loop
-add-from-2 c = omega (arith, c .before .before .loop .inv .1, c .before .before .loop .inv .2 .flagging .inside, c .before .before .before .before .before .before .before .before .before .before .before .before .before .pre .0 .pattern .few-bits, fitting (c .before .before .before .before .before .before .before .before .before .before .before .before .before) .small)
-
--- there is another block
-another : (c : tie.Then1 Inv-loop μ-loop) → 57 * (c .before .before .loop .block + 1) + 8 ≤ c .before .before .before .before .before .before .before .before .before .before .before .before .before .args .known .m
-another c =
-    let l = c .before .before .loop in
-    omega (arith, more (l .f) (57 * l .block + 65) (c .before .before .before .before .before .before .before .before .before .before .before .before .before .args .known .m) (c .before .loop-test .taken) (c .if1 .taken))
-
-flags-requires-2 : tie.Need-flags-requires-2 Inv-loop μ-loop
-flags-requires-2 c κs = let s = c .before .before .before .before .before .before .before .before .before .before .before .before .before in (s .pre .1 .1 .1, (s .pre .0 .room, s .pre .0 .pattern .few-bits, another c))
-
-loop-less : tie.Need-loop-less Inv-loop μ-loop
-loop-less c =
-    let l = c .before .before .before .loop in
-    next-block (c .before .before .before .before .before .before .before .before .before .before .before .before .before .before .args .known .m) (l .block) (l .f) (c .flags2 .result) (omega (arith, l .inv .2 .flagging .inside)) (search needs)
-
-loop-again : tie.Need-loop-again Inv-loop μ-loop
-loop-again c =
-    let l = c .before .before .before .loop in
-    let s = c .before .before .before .before .before .before .before .before .before .before .before .before .before .before in
-    let u = l .inv .2 in (
-      search needs,
-      omega (arith, l .inv .1),
-      record {
-        k = u .k;
-        low = u .low;
-        flagging = flagging-more (pattern s) (getD (now (s .args .text)) (s .args .b .0) 0) (u .k) (l .block) (l .f) (u .flagging) (c .before .if1 .taken) _ (another (c .before)) (c .flags2 .ensures);
-        writing = u .writing;
-      },
-    )
+next-block-requires : tie.Need-next-block-requires Inv-loop μ-loop
+next-block-requires c κs = let s = c .before .before .before .before .before .before .before .before .before .before .before in (s .pre .1 .1 .1, (s .pre .0 .room, s .pre .0 .pattern .few-bits, c .loop .inv .1 .flagging .inside))
 
 add-p : tie.Need-add-p Inv-loop μ-loop
-add-p c = omega (arith, trailing-le 64 (f c), c .before .before .loop .inv .1, fits c, start c .pre .0 .pattern .few-bits, fitting (start c) .small)
+add-p c =
+    let e = c .before in
+    omega (arith, first-bit (c .before .before .before .before .before .before .before), e .before .next-block .ensures .0, fits e, start e .pre .0 .pattern .few-bits, start e .pre .0 .few-bits, start e .pre .1 .1 .0 .1)
+
+add-p-2 : tie.Need-add-p-2 Inv-loop μ-loop
+add-p-2 c =
+    let e = c .before in
+    omega (arith, trailing-le 64 (f e), first-bit (c .before .before .before .before .before .before .before), e .before .next-block .ensures .0, fits e, start e .pre .0 .pattern .few-bits, start e .pre .0 .few-bits, start e .pre .1 .1 .0 .1)
 
 sub-p : tie.Need-sub-p Inv-loop μ-loop
-sub-p c = omega (arith, c .before .before .loop .inv .1, low c, fits c)
+sub-p c =
+    let e = c .before in
+    omega (arith, first-bit (c .before .before .before .before .before .before .before), e .before .next-block .ensures .0, low e, fits e)
 
 sub-f-3 : tie.Need-sub-f-3 Inv-loop μ-loop
-sub-f-3 c = omega (arith, c .if1 .left)
+sub-f-3 c = omega (arith, c .before .if1 .left)
 
 same-requires : tie.Need-same-requires Inv-loop μ-loop
 same-requires c κs =
-    let s = start c in
+    let e = c .before in
+    let s = start e in
     let g = s .pre .0 .pattern in
-    ((g .some-bits, g .few-bits, rw (place-is c) (place-fits _ (s .args .known .n) (s .args .known .m) (2 ^ 30) (inside c) (s .pre .0 .few-bits))), s .pre .1 .0)
+    ((g .some-bits, g .few-bits, rw (place-is e) (place-fits _ (s .args .known .n) (s .args .known .m) (2 ^ 30) (inside e) (s .pre .0 .few-bits))), s .pre .1 .0)
 
 same-length : tie.Need-same-length Inv-loop μ-loop
-same-length c = writing-length _ _ _ _ _ (c .before .before .before .before .before .loop .inv .2 .writing)
+same-length c = writing-length _ _ _ _ _ (c .before .before .before .before .before .before .loop .inv .1 .writing)
 
 returns : tie.Need-returns Inv-loop μ-loop
 returns c =
-    let e = c .before .before .before in
+    let e = c .before .before .before .before in
     let s = start e in
     let a = s .args in
     let b = a .b .0 in
     let last : lastByte (pattern s) (mark s) ≡ b = mark-byte b (a .known .m) (s .pre .1 .1 .0 .0) (long s) in
     rw (place-is e)
-    (skip-full (text s) (pattern s) (mark s) (now (a .list)) (a .had) (c .before .before .before .before .before .loop .list) (c .before .before .before .before .before .loop .written) (8 * b + 1 - j e) (writing e) (long s) (s .pre .1 .1 .0 .2)
+    (skip-full (text s) (pattern s) (mark s) (now (a .list)) (a .had) (c .before .before .before .before .before .before .loop .list) (c .before .before .before .before .before .before .loop .written) (8 * b + 1 - j e) (writing e) (long s) (s .pre .1 .1 .0 .2)
     (omega (arith, low e)) (rw last (below-top (8 * b + 1) (j e) (some e) (omega (arith, low e)))) (stands (c .before .before) _ (c .before .if2 .taken)) (c .if3 .taken))
 
 mul-list : tie.Need-mul-list Inv-loop μ-loop
 mul-list c =
-    let size = writing-length _ _ _ _ _ (c .before .before .before .before .before .loop .inv .2 .writing) in
-    omega (arith, c .before .before .before .before .before .before .before .before .before .before .before .before .before .before .before .before .good)
+    let size = writing-length _ _ _ _ _ (c .before .before .before .before .before .before .loop .inv .1 .writing) in
+    omega (arith, c .before .before .before .before .before .before .before .before .before .before .before .before .before .before .before .before .before .good)
 
 slice-write-list : tie.Need-slice-write-list Inv-loop μ-loop
 slice-write-list c = c .if3 .left
 
 add-written : tie.Need-add-written Inv-loop μ-loop
 add-written c =
-    let size = writing-length _ _ _ _ _ (c .before .before .before .before .before .loop .inv .2 .writing) in
-    omega (arith, c .before .before .before .before .before .before .before .before .before .before .before .before .before .before .before .before .good)
+    let size = writing-length _ _ _ _ _ (c .before .before .before .before .before .before .loop .inv .1 .writing) in
+    omega (arith, c .before .before .before .before .before .before .before .before .before .before .before .before .before .before .before .before .before .good)
+
+loop-less : tie.Need-loop-less Inv-loop μ-loop
+loop-less c = measured (c .before .before .before .before)
+
+loop-again : tie.Need-loop-again Inv-loop μ-loop
+loop-again c =
+    let e = c .before .before .before .before in
+    let s = start e in
+    let a = s .args in
+    let b = a .b .0 in (
+      omega (arith, fewer e, small e),
+      rest e _ _
+          (rw (place-is e)
+          (written-more (text s) (pattern s) (mark s) (now (a .list)) (a .had) (c .before .before .before .before .before .before .loop .list) (c .before .before .before .before .before .before .loop .written) (8 * b + 1 - j e) (writing e) _
+          (walk-found (text s) (pattern s) b (mark s) (j e) (covers s) (low e) (j e - 1) (omega (arith, some e)) (below-is (showsByte (pattern s) (byteOf (text s) (pattern s) b)) (j e - 1) .within)
+          (stands (c .before .before) _ (c .before .if2 .taken))) (c .if3 .left))),
+    )
 
 loop-less-2 : tie.Need-loop-less-2 Inv-loop μ-loop
-loop-less-2 c = omega (arith, fewer (c .before .before .before))
+loop-less-2 c = measured (c .before .before .before)
 
 loop-again-2 : tie.Need-loop-again-2 Inv-loop μ-loop
 loop-again-2 c =
     let e = c .before .before .before in
     let s = start e in
-    let a = s .args in
-    let b = a .b .0 in (
-      omega (arith, fewer e, c .before .before .before .before .before .loop .inv .0),
-      c .before .before .before .before .before .loop .inv .1,
-      rest (c .before .before) _ _
-          (rw (place-is e)
-          (written-more (text s) (pattern s) (mark s) (now (a .list)) (a .had) (c .before .before .before .before .before .loop .list) (c .before .before .before .before .before .loop .written) (8 * b + 1 - j e) (writing e) _
-          (walk-found (text s) (pattern s) b (mark s) (j e) (covers s) (low e) (j e - 1) (omega (arith, some e)) (below-is (showsByte (pattern s) (byteOf (text s) (pattern s) b)) (j e - 1) .within)
-          (stands (c .before .before) _ (c .before .if2 .taken))) (c .if3 .left))),
-    )
-
-loop-less-3 : tie.Need-loop-less-3 Inv-loop μ-loop
-loop-less-3 c = omega (arith, fewer (c .before .before))
-
-loop-again-3 : tie.Need-loop-again-3 Inv-loop μ-loop
-loop-again-3 c =
-    let e = c .before .before in
-    let s = start e in
     let b = s .args .b .0 in (
-      omega (arith, fewer e, c .before .before .before .before .loop .inv .0),
-      c .before .before .before .before .loop .inv .1,
-      rest (c .before) _ _
+      omega (arith, fewer e, small e),
+      rest e _ _
           (rw (walk-by (text s) (pattern s) b (mark s) (j e) (covers s) (low e) (j e - 1) (omega (arith, some e)) (below-is (showsByte (pattern s) (byteOf (text s) (pattern s) b)) (j e - 1) .within)
           (stands (c .before) _ (c .if2 .left))) (writing e)),
     )
 
 place-at-requires : tie.Need-place-at-requires Inv-loop μ-loop
-place-at-requires c κs = (fitting (c .before .before .before .before .before .before .before .before .before .before .before .before) .small, lit< tt)
+place-at-requires c κs = (fitting (c .before .before .before .before .before .before .before .before .before .before .before .before .before) .small, lit< tt)
 
 same-length-2 : tie.Need-same-length-2 Inv-loop μ-loop
-same-length-2 c = writing-length _ _ _ _ _ (c .before .before .loop .inv .2 .writing)
+same-length-2 c = writing-length _ _ _ _ _ (c .before .before .before .loop .inv .1 .writing)
 
 returns-2 : tie.Need-returns-2 Inv-loop μ-loop
 returns-2 c =
-    let l = c .before .before .loop in
-    let s = c .before .before .before .before .before .before .before .before .before .before .before .before .before in
+    let l = c .before .before .before .loop in
+    let s = c .before .before .before .before .before .before .before .before .before .before .before .before .before .before in
     let a = s .args in
     let b = a .b .0 in
-    let u = l .inv .2 in
+    let u = l .inv .1 in
     let w = getD (now (a .text)) b 0 in
     let last : lastByte (pattern s) (mark s) ≡ b = mark-byte b (a .known .m) (s .pre .1 .1 .0 .0) (long s) in
-    let z = no-more (l .f) (57 * l .block + 65) (a .known .m) (c .before .loop-test .left) in
-    let none : lastShown (pattern s) w (u .k) ≤ 0 = omega (arith, flagging-end (pattern s) w (u .k) (l .block) (l .f) (u .flagging) (z .0) (omega arith) (index s (u .k) (u .low))) in
-    let gap = sweep-gap (text s) (pattern s) b (mark s) (u .k) 0 (covers s) (u .low) (rw (value (c .before .before .before .before .before .before .before)) at none) (omega arith) in
+    let end = c .before .before .next-block .ensures .3 (u .k) (u .flagging) .none (c .before .if1 .taken) (index s (u .k) (u .low)) in
+    let none : lastShown (pattern s) w (u .k) ≤ 0 = omega (arith, end) in
+    let gap = sweep-gap (text s) (pattern s) b (mark s) (u .k) 0 (covers s) (u .low) (rw (value (c .before .before .before .before .before .before .before .before)) at none) (omega arith) in
     let all : occurrences (text s) (pattern s) (mark s) (8 * b + 1) ≡ occurrences (text s) (pattern s) (mark s) (8 * b + 1 - u .k) = ap (occurrences (text s) (pattern s) (mark s)) (whole (8 * b + 1)) ∙ gap in
     rw (c .place-at .ensures) (skip-all (text s) (pattern s) (mark s) (now (a .list)) (a .had) (l .list) (l .written) b last (s .pre .1 .1 .0 .1) (long s) (rw all (u .writing)))
   where
@@ -392,14 +365,9 @@ sweep-spec =
     cast-f
     shl-f
     loop-holds
-    mul-loop
-    add-loop
-    add-block
-    add-from-2
-    flags-requires-2
-    loop-less
-    loop-again
+    next-block-requires
     add-p
+    add-p-2
     sub-p
     sub-f-3
     same-requires
@@ -408,10 +376,10 @@ sweep-spec =
     mul-list
     slice-write-list
     add-written
+    loop-less
+    loop-again
     loop-less-2
     loop-again-2
-    loop-less-3
-    loop-again-3
     place-at-requires
     same-length-2
     returns-2)

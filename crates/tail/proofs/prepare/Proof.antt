@@ -16,11 +16,11 @@ cast-inside c = search needs
 shl-inside : tie.Need-shl-inside
 shl-inside c = search needs
 
-word-at-byte-requires : tie.Need-word-at-byte-requires
-word-at-byte-requires c κs = search needs
+word-near-end-requires : tie.Need-word-near-end-requires
+word-near-end-requires c κs = search needs
 
-word-at-byte-requires-2 : tie.Need-word-at-byte-requires-2
-word-at-byte-requires-2 c κs = search needs
+word-near-end-requires-2 : tie.Need-word-near-end-requires-2
+word-near-end-requires-2 c κs = search needs
 
 slice-write-cells : tie.Need-slice-write-cells
 slice-write-cells c = search needs
@@ -36,7 +36,7 @@ returns c =
     let s = c .before .before .before .before .before in
     let a = s .args in
     let w = patternOf (now (a .pattern)) (now (a .fixed)) (a .m) in
-    prepared w (s .pre .0 .some-bits) (short-enough w (s .pre .0)) (now (a .cells)) _ _ (s .pre .1) (c .word-at-byte2 .ensures) (c .before .word-at-byte .ensures)
+    prepared w (s .pre .0 .some-bits) (short-enough w (s .pre .0)) (now (a .cells)) _ _ (s .pre .1) (c .word-near-end2 .ensures) (c .before .word-near-end .ensures)
 
 pub prepare-spec : {M : Type 1} → statement M
 prepare-spec =
@@ -45,8 +45,8 @@ prepare-spec =
     sub-inside
     cast-inside
     shl-inside
-    word-at-byte-requires
-    word-at-byte-requires-2
+    word-near-end-requires
+    word-near-end-requires-2
     slice-write-cells
     slice-write-cells-2
     same-length

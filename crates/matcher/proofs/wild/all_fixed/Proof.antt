@@ -29,14 +29,14 @@ load c =
     c .word-at-byte .ensures ∙ ap (λ (n : ℕ). bitsAt (now (a .fixed)) n 64) there
 
 -- and the last one
-last-load : (c : tie.After-word-at-byte2 Inv-loop μ-loop)
+last-load : (c : tie.After-word-near-end Inv-loop μ-loop)
     → let a = c .before .before .before .before .before .before .args in
-    c .word-at-byte2 .result ≡ bitsAt (now (a .fixed)) (c .before .before .before .loop .o) 64
+    c .word-near-end .result ≡ bitsAt (now (a .fixed)) (c .before .before .before .loop .o) 64
 last-load c =
     let a = c .before .before .before .before .before .before .args in
     let o = c .before .before .before .loop .o in
     let there : c .before .byte2 .result .0 * 8 ≡ o = omega (arith, c .before .byte2 .ensures, c .before .before .before .loop .inv .1) in
-    c .word-at-byte2 .ensures ∙ ap (λ (n : ℕ). bitsAt (now (a .fixed)) n 64) there
+    c .word-near-end .ensures ∙ ap (λ (n : ℕ). bitsAt (now (a .fixed)) n 64) there
 
 loop-holds : tie.Need-loop-holds Inv-loop μ-loop
 loop-holds c = (omega arith, omega arith, λ j l. absurd (omega arith))
@@ -76,8 +76,8 @@ loop-again c =
 byte-requires-2 : tie.Need-byte-requires-2 Inv-loop μ-loop
 byte-requires-2 c κs = search needs
 
-word-at-byte-requires-2 : tie.Need-word-at-byte-requires-2 Inv-loop μ-loop
-word-at-byte-requires-2 c κs = search needs
+word-near-end-requires : tie.Need-word-near-end-requires Inv-loop μ-loop
+word-near-end-requires c κs = search needs
 
 sub-result : tie.Need-sub-result Inv-loop μ-loop
 sub-result c = search needs
@@ -124,7 +124,7 @@ all-fixed-spec =
     loop-less
     loop-again
     byte-requires-2
-    word-at-byte-requires-2
+    word-near-end-requires
     sub-result
     sub-result-2
     cast-result
