@@ -154,5 +154,5 @@ pub fn word_near_end(bytes: &[u8], b: ByteNo) -> u64
     if k == 0 {
         return 0;
     }
-    x << (64 - 8 * k)
+    x << (64 - ByteNo(k).place().0)
 }

@@ -2,7 +2,7 @@
 -- Assumes nothing.
 use mathlib.Core.Path.{_≡_, refl, sym, _∙_, ap, ap₂}
 use Prim.Native.Nat.{ℕ, _+_, _-_, _*_, _%_, _^_, _≤_, _<_}
-use native.Mathlib.Nat.{lt-of-lt-of-le, mul-comm}
+use native.Mathlib.Nat.{lt-of-lt-of-le}
 use native.Mathlib.Numerals.{add-one}
 use native.Mathlib.Omega.{arith}
 use borrow.Author.Needs.{needs}
@@ -83,22 +83,25 @@ returns-2 c =
     let a = c .before .before .before .before .before .args in
     sym (bits-end (now (a .bytes)) (a .b .0) 0 (omega arith) (omega arith))
 
-mul-result : tie.Need-mul-result Inv-loop μ-loop
-mul-result c = omega (arith, c .before .before .loop .inv .0)
+place-requires : tie.Need-place-requires Inv-loop μ-loop
+place-requires c κs = omega (arith, c .before .before .loop .inv .0)
 
 sub-result : tie.Need-sub-result Inv-loop μ-loop
-sub-result c = omega (arith, c .before .before .loop .inv .0)
+sub-result c = omega (arith, c .before .place .ensures, c .before .before .before .before .loop .inv .0)
+
+cast-result : tie.Need-cast-result Inv-loop μ-loop
+cast-result c = omega (arith, c .before .place .ensures, c .before .before .before .before .loop .inv .0)
 
 shl-result : tie.Need-shl-result Inv-loop μ-loop
-shl-result c = omega (arith, c .before .before .loop .inv .0)
+shl-result c = omega (arith, c .before .place .ensures, c .before .before .before .before .loop .inv .0, c .before .before .if2 .left)
 
 returns-3 : tie.Need-returns-3 Inv-loop μ-loop
 returns-3 c =
-    let l = c .before .before .loop in
-    let a = c .before .before .before .before .before .args in
+    let l = c .before .before .before .before .loop in
+    let a = c .before .before .before .before .before .before .before .args in
     let x = bitsAt (now (a .bytes)) (a .b .0 * 8) (l .k * 8) in
     let few : l .k ≤ 8 = omega (arith, l .inv .0) in
-    ap₂ (λ (u v : ℕ). (u * 2 ^ (64 - v)) % 2 ^ 64) (l .inv .1) (mul-comm 8 (l .k))
+    ap₂ (λ (u v : ℕ). (u * 2 ^ (64 - v)) % 2 ^ 64) (l .inv .1) (c .before .place .ensures)
     ∙ shl-exact {a = x} (l .k * 8) (64 - l .k * 8) 64 (bits-lt (now (a .bytes)) (a .b .0 * 8) (l .k * 8)) (omega arith)
     ∙ sym (bits-end (now (a .bytes)) (a .b .0) (l .k) few (omega arith))
 
@@ -122,7 +125,8 @@ word-near-end-spec =
     loop-less
     loop-again
     returns-2
-    mul-result
+    place-requires
     sub-result
+    cast-result
     shl-result
     returns-3)
