@@ -7,7 +7,7 @@ use mathlib.Core.Bool.{cond}
 use native.Mathlib.Nat.{not-suc-le-zero, le-of-suc-le-suc}
 use native.Mathlib.Decide.{decLe}
 use native.Mathlib.Omega.{arith}
-use lib.Bits.{bitAnd, bitXor, xor-lt}
+use lib.Bits.{bitAnd, bitXor}
 use lib.Count.{trailingZeros, under}
 use lib.Dec.{eqb}
 use lib.Pow.{pow-pos, pow-lt, shl-exact, shr-lt}
@@ -114,9 +114,6 @@ module _ (x j : ℕ) (small : j < 64) where
       go : (weight x i ≡ 0) ⊎ (weight x i ≡ 1) → cond (eqb (weight x i) 0) 0 1 ≡ weight x i
       go (inl e) = rw e
       go (inr e) = rw e
-
-  pub turn-few : (k : ℕ) → x < 2 ^ k → j < k → bitXor x ((1 * 2 ^ j) % 2 ^ 64) < 2 ^ k
-  turn-few k h l = rw one-at (xor-lt k x (2 ^ j) h (pow-lt l))
 
 -- all 64 bits turned: `z ^ ALL`
 abbrev pub all-ones : ℕ

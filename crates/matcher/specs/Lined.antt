@@ -1,6 +1,6 @@
 -- Words whose bits stand for moves of the pattern: bit e of a word for a move by d + e, at which the pattern's bit
--- m - 1 - (d + e) lies where its last bit lay. Hash asks for the least move that brings a value under it, and skip for the
--- indices that show a byte.
+-- m - 1 - (d + e) lies where its last bit lay. Hash asks for the least move at which the pattern
+-- agrees with a value, and skip for the indices that show a byte.
 use Prim.Native.Nat.{ℕ, _+_, _-_, _*_, _^_, _≤_, _<_}
 use mathlib.Core.Path.{_≡_}
 use mathlib.Core.Bool.{Bool, _&&_, cond}
@@ -11,7 +11,7 @@ use Rattle.bits.specs.Packed.{bitAt, weight}
 use Rattle.rules.specs.Ranges.{implies, every}
 use Rattle.rules.specs.Pattern.{Pattern, agrees}
 
--- a word of the 64 bits of a run that end d bits before bit m, those before its first bit 0
+-- a word of the 64 bits of a run that end d bits before bit m; where it has no bit, a 0
 abbrev pub Ending : List ℕ → ℕ → ℕ → ℕ → Type 0
 Ending run m d word = (e : ℕ) → weight word e ≡ cond (ltb e 64 && ltb (d + e) m) (bitAt run (m - 1 - (d + e))) 0
 

@@ -54,8 +54,9 @@ pub record ChainTables (w : Pattern) (cells : List ℕ) : Type 0 where
   pub head-is : (B : ℕ) → B < 256 → getD cells B 0 ≡ lastBelow (inChain w B) (chained (w .count))
   pub link-is : (j : ℕ) → j < chained (w .count) → getD cells (256 + j) 0 ≡ lastBelow (inChain w (bitsAt (w .bytes) j 8)) j
 
--- skip, for any pattern: in the cells from 22 k + 6 on the words of four bits for the moves from 57 k on. Index m − 8 − d shows a byte
--- just if the move d brings its eight bits under the pattern's last ones.
+-- skip, for any pattern: in the cells from 22 k + 6 on the words of four bits for the moves from 57 k on. Index m − 8 − d shows a
+-- byte just if the byte meets hash's condition on the move d: after it the bits from that index on lie where the pattern's last
+-- eight lay.
 pub record WordTables (w : Pattern) (cells : List ℕ) : Type 0 where
   pub words-are : (k : ℕ) → 57 * k + 8 ≤ w .count → Words w (57 * k) 4 (22 * k + 6) cells
 

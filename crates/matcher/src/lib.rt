@@ -1,5 +1,6 @@
-// What the methods share: the comparison at a place, words for wild bits, and what their steps give back. A method is a crate of its own
-// with three functions: `prepare` makes its tables, `step` makes one step from any mark, `advance` makes many.
+// What the methods share: the comparison at a place, words for wild bits, and what their steps give back. A method is a
+// crate of its own with three functions: `prepare` makes its tables, `step` makes one step from any mark, `advance` makes
+// many.
 pub mod compare;
 pub mod wild;
 

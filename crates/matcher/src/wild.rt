@@ -30,7 +30,7 @@ pub fn all_fixed(pattern: &[u8], fixed: &[u8], m: u32) -> bool
     load::word_near_end(fixed, Place(o).byte()) >> (64 - (m - o)) == ALL >> (64 - (m - o))
 }
 
-// The 64 bits of a run that end d bits before its bit m, those before its first bit 0.
+// The 64 bits of a run that end d bits before its bit m; where it has no bit, a 0.
 fn ending(run: &[u8], m: u32, d: u32) -> u64
     requires { ⌜ d ≤ m ⌝ }
     ensures { λ r. ⌜ Ending (now (run .entry)) m d r ⌝ }

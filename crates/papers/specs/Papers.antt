@@ -106,8 +106,8 @@ pub record Papers : Type 0 where
   pub cells-tail-1 : scratchCells Tail 1 ≡ 2
   pub cells-tail-64 : scratchCells Tail 64 ≡ 2
   -- Wild bits: V1 in R1 by plain and wide, whose runs are in search/specs/Examples.antt; then V1 with a field of four bits wild,
-  -- which occurs at 17 and 22 too. Skip takes neither, and its refusals are there as well. V2 with every third bit wild is its row:
-  -- that occurs in R2 at 3 and 9 too
+  -- which occurs at 17 and 22 too. Skip takes neither, and its refusals are there as well; its row here is V2 with
+  -- every third bit wild, which occurs in R2 at 3 and 9 too
   pub plain-marks : marks Plain R1 V1 3 ≡ 0 ∷ 1 ∷ 2 ∷ 3 ∷ []
   pub wide-marks-1 : marks Wide R1 V1 1 ≡ 0 ∷ 27 ∷ []
   pub wild-all : allOccurrences R1 V1Wild ≡ 11 ∷ 17 ∷ 22 ∷ []

@@ -12,8 +12,8 @@ use Rattle.rules.specs.Pattern.{Pattern, agrees}
 abbrev pub places : Packed → Pattern → ℕ
 places t w = (1 + t .count) - w .count
 
--- "A hit is a place s, 0 ≤ s < E, with t[s+j] = w[j] for each j from 0 to m − 1." Of the fixed bits alone
--- (document 02).
+-- "A hit is a place s, 0 ≤ s < E, with t[s+j] = w[j] for each j from 0 to m − 1." By document 02 only
+-- the fixed bits are compared.
 pub record Occurs (t : Packed) (w : Pattern) (s : ℕ) : Type 0 where
   pub inside : s < places t w
   pub same : (j : ℕ) → j < w .count → agrees w j (bitAt (t .bytes) (s + j)) ≡ true

@@ -1,7 +1,6 @@
 -- What a pattern's second run is to a call ("Wild bits in a word"): with every bit fixed a call, a search or one for H(B), answers
 -- as before there was one, and patterns that are alike get the same answers. The theorems are in proofs/Wild.antt.
 use Prim.Native.Nat.{ℕ, _≤_}
-use mathlib.Core.Path.{_≡_}
 use mathlib.Core.List.{List, [], _∷_}
 use lib.Dec.{ltb}
 use lib.ListN.{length}

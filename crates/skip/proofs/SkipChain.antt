@@ -37,10 +37,6 @@ pub chained-near : (m : ℕ) → 15 ≤ m → m < chained m + 15
 unfolding chained
 chained-near m long = omega arith
 
-pub chained-le : (m : ℕ) → chained m ≤ m
-unfolding chained
-chained-le m = omega arith
-
 -- they are those of a step from a mark 8 b + 1
 pub chained-span : (s m : ℕ) → s % 8 ≡ 1 → 15 ≤ m → 8 * ((s + m) / 8 - 1) + 1 - s ≡ chained m
 unfolding chained

@@ -2,11 +2,10 @@
 -- Assumes nothing.
 use Prim.Native.Nat.{ℕ, _+_, _-_, _≤_, _<_}
 use mathlib.Core.Path.{_≡_, sym, ap, _∙_}
-use mathlib.Core.Logic.{_↔_}
 use mathlib.Core.Bool.{true}
 use native.Mathlib.Omega.{arith}
 use borrow.Author.Tests.{eqb-true, eq-eqb}
-use Rattle.bits.specs.Packed.{bitAt, bitsAt, bitOf}
+use Rattle.bits.specs.Packed.{bitsAt, bitOf}
 use Rattle.bits.proofs.Weight.{same-weights}
 use Rattle.bits.proofs.Run.{bits-lt, bit-of-bits, weight-of-bits}
 use Rattle.rules.specs.Pattern.{Pattern}

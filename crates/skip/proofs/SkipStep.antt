@@ -118,9 +118,6 @@ module _ (n m b p j stop : ℕ) (fits : m ≤ n) (is : stop ≡ min (8 * b + 1) 
 pub below-end : (x n m : ℕ) → m ≤ n → x < n - m + 1 → x < 1 + n - m
 below-end x n m h l = omega arith
 
-pub from-end : (x j n m : ℕ) → m ≤ n → j ≤ x → n - m + 1 ≤ x - j → j ≤ x - (1 + n - m)
-from-end x j n m h l g = omega arith
-
 -- the place of a link, where all places of the step lie below E
 pub place-below : (x j e : ℕ) → 0 < j → x < e → x + 1 - j < e
 place-below x j e h l = omega arith

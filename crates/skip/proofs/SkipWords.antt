@@ -1,10 +1,9 @@
 -- Laws of a walk by words: what the flags of 57 moves say of the pattern's indices, and that the lowest one is the last index that
 -- shows the byte.
 -- Assumes nothing.
-use Prim.Native.Nat.{ℕ, suc, _+_, _-_, _*_, _/_, _%_, _^_, _≤_, _<_, min}
-use mathlib.Core.Path.{_≡_, refl, sym, ap, ap₂, _∙_}
+use Prim.Native.Nat.{ℕ, _+_, _-_, _*_, _/_, _%_, _^_, _≤_, _<_, min}
+use mathlib.Core.Path.{_≡_, sym, ap, _∙_}
 use mathlib.Core.Bool.{Bool, true, false, true≢false, _&&_, cond}
-use mathlib.Core.Logic.{_⊎_, inl, inr}
 use mathlib.Core.List.{List}
 use native.Mathlib.Decide.{decLe, ℕ-discrete}
 use native.Mathlib.Omega.{arith}
@@ -12,7 +11,7 @@ use borrow.Author.Tests.{leb-true, le-leb, ltb-true, lt-ltb, le-ltb}
 use lib.Bits.{bitAnd}
 use lib.Count.{trailingZeros}
 use lib.Dec.{leb, ltb}
-use lib.ListN.{length, getD, set, drop, length-set}
+use lib.ListN.{length, getD, set, length-set}
 use lib.Seq.{getD-set-same, drop-set-lt}
 use Rattle.bits.specs.Packed.{Packed, weight}
 use Rattle.bits.proofs.Weight.{weight-lt, weight-out, weight-and, weight-shr, weight-shl, weight-shl-low, weight-mod, weight-zero, weight-ones}
@@ -21,14 +20,14 @@ use Rattle.rules.specs.Pattern.{Pattern}
 use Rattle.rules.specs.Occurrence.{occurrences}
 use Rattle.matcher.specs.Progress.{Writing}
 use Rattle.matcher.specs.Lined.{meetsLast, Lined, Words, Only}
-use Rattle.matcher.specs.Tables.{lastBelow, showsByte, Prepared}
+use Rattle.matcher.specs.Tables.{showsByte, Prepared}
 use Rattle.skip.specs.SkipChains.{lastShown, shownBy, Flags, Flagging}
 use Rattle.rules.proofs.Ranges.{and-left, and-right, and-both, same-test, not-true-false, every-at, to-every}
 use Rattle.rules.proofs.Hash.{meets-at, to-meets}
 use Rattle.matcher.proofs.SingleBits.{all-ones, trailing-below, trailing-at, trailing-lt, lowest-gone, others-stay}
 use Rattle.matcher.proofs.Lined.{one-true, zero-false, last-eight, lined-join}
-use Rattle.matcher.proofs.LinedCells.{only-then, only-wider, only-rest, words-same}
-use Rattle.skip.proofs.SkipBelow.{Below, below-eq}
+use Rattle.matcher.proofs.LinedCells.{only-rest, words-same}
+use Rattle.skip.proofs.SkipBelow.{below-eq}
 
 -- a flag before the cut is that of one of the block's moves, whose index the pattern has
 module _ (m d e k : ℕ) (kept : k ≤ 57) (inside : d + k + 7 ≤ m) (l : e < k) where

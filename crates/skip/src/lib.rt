@@ -1,7 +1,7 @@
 // The skip method: one whole byte of the text decides many places. There are two kinds of tables. Where every bit of the
 // pattern is fixed, cell B, below 256, is the head of the chain of the indices at which the pattern shows the byte B,
 // highest first, and cell 256 + j is the link after index j. Head and link are one more than an index, and 0 ends the chain.
-// With wild bits an index shows many bytes. Then the cells hold words of flags (`matcher::wild`), 22 for each 57 indices from
+// With wild bits an index may show many bytes. Then the cells hold words of flags (`matcher::wild`), 22 for each 57 indices from
 // the last one down: two loads and an `and` tell which of these show a byte, and the lowest flag is the highest index. Cell
 // 255 + m, which neither kind uses, tells which it is.
 //
@@ -181,7 +181,7 @@ fn flags(pattern: &[u8], fixed: &[u8], m: u32, cells: &[u64], v: u8, c: u32) -> 
     both
 }
 
-// A block of 57 moves, its number and the first of them, and its flags.
+// A block of 57 moves: its number, the first of its moves, and those of its flags that are left.
 struct Block {
     number: u32,
     far: u32,
@@ -256,7 +256,7 @@ fn lowest(
     }
 }
 
-// The flags of the last places of a step, and the link of the lowest: those before the mark are cut off.
+// The flags of the first places of a step, those before the mark cut off, and the link of the lowest.
 fn first_flags(pattern: &[u8], fixed: &[u8], m: u32, cells: &[u64], v: u8, k: u32) -> Links
     requires { ⌜ WordTables (patternOf (now pattern) (now fixed) m) (now cells) ⌝ }
     requires { ⌜ (256 + m ≤ length (now cells)) × (15 ≤ m) × (m ≤ 2048) × (k + 7 ≤ m) × (m < k + 15) ⌝ }

@@ -15,7 +15,7 @@ use lib.Pow.{shr-le}
 use lib.Seq.{getD-set-same, getD-set-other, drop-set-lt}
 use borrow.Author.Tests.{le-leb, lt-leb}
 use Rattle.bits.specs.Packed.{bitAt, bitOf, weight}
-use Rattle.bits.proofs.Weight.{bit-or-bit, weight-out, weight-shr, weight-shl, weight-shl-low, weight-mod, weight-zero, weight-ones, weight-or}
+use Rattle.bits.proofs.Weight.{bit-or-bit, weight-out, weight-shr, weight-shl, weight-shl-low, weight-mod, weight-ones, weight-or}
 use Rattle.bits.proofs.Loads.{bit-in-byte}
 use Rattle.rules.specs.Pattern.{Pattern, agrees}
 use Rattle.rules.proofs.Ranges.{eq-or-below}

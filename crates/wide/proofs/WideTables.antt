@@ -4,17 +4,14 @@
 use mathlib.Core.Path.{_≡_, refl, sym, ap, _∙_}
 use mathlib.Core.Bool.{Bool, true, false, _&&_, cond}
 use mathlib.Core.List.{List}
-use Prim.Native.Nat.{ℕ, zero, suc, _+_, _-_, _*_, _/_, _%_, _^_, _≤_, _<_}
-use native.Mathlib.Nat.{not-suc-le-zero, le-of-suc-le-suc}
+use Prim.Native.Nat.{ℕ, suc, _+_, _-_, _*_, _≤_, _<_}
 use native.Mathlib.Decide.{decLe}
 use native.Mathlib.Omega.{arith}
 use lib.Dec.{leb, ltb}
-use lib.Count.{trailingZeros, under}
 use lib.ListN.{length, getD, drop, List·getD-eq-default}
-use lib.Pow.{pow-pos}
 use borrow.Author.Tests.{ltb-true, lt-ltb, leb-true, le-leb}
 use Rattle.bits.specs.Packed.{weight}
-use Rattle.bits.proofs.Weight.{weight-shr, weight-zero, weight-ones, same-weights}
+use Rattle.bits.proofs.Weight.{weight-ones}
 use Rattle.rules.specs.Pattern.{Pattern, agrees}
 use Rattle.matcher.specs.Tables.{passes, WideTables}
 use Rattle.rules.proofs.Ranges.{and-left, and-right, to-implies, same-test}

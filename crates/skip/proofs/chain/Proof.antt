@@ -1,8 +1,8 @@
 -- `skip::chain` meets its contract: where the byte's chain is empty no place of the step shows it, else it is walked.
 -- Assumes nothing.
 use borrow.Author.Needs.{needs}
-use Prim.Native.Nat.{ℕ, _+_, _-_, _*_, _≤_, min}
-use mathlib.Core.Path.{_≡_, sym, ap, _∙_}
+use Prim.Native.Nat.{ℕ, _+_, _-_, _*_}
+use mathlib.Core.Path.{_≡_, ap, _∙_}
 use mathlib.Core.List.{[]}
 use native.Mathlib.Omega.{arith}
 use denote.Ref.{now}
@@ -14,7 +14,6 @@ use Rattle.rules.specs.Occurrence.{occurrences}
 use Rattle.rules.specs.Skip.{lastByte}
 use Rattle.matcher.specs.Tables.{lastBelow, inChain, chained}
 use Rattle.matcher.specs.Progress.{textIn, patternIn}
-use Rattle.rules.proofs.Occurrence.{places-some}
 use Rattle.matcher.proofs.Writing.{writing-none}
 use Rattle.skip.proofs.SkipChain.{chained-fits, mark-byte, byte-is, walk-start}
 use Rattle.skip.proofs.SkipShows.{shown-chain}

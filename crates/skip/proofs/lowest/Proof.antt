@@ -2,13 +2,12 @@
 -- Assumes nothing.
 use borrow.Author.Needs.{needs}
 use Prim.Native.Nat.{_+_, _-_, _*_, _^_, _≤_, _<_}
-use mathlib.Core.Path.{_≡_}
 use native.Mathlib.Omega.{arith}
 use denote.Ref.{now}
 use lib.Count.{trailingZeros}
 use Rattle.rules.specs.Pattern.{Pattern}
 use Rattle.matcher.specs.Progress.{patternOf}
-use Rattle.skip.specs.SkipChains.{lastShown, Flagging}
+use Rattle.skip.specs.SkipChains.{Flagging}
 use Rattle.skip.proofs.SkipWords.{low-fits, lowest-is, flagging-rest}
 use Rattle.skip.proofs.lowest.Statement.{statement}
 use Rattle.skip.proofs.lowest.Tie as tie

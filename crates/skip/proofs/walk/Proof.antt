@@ -1,7 +1,6 @@
 -- `skip::walk` meets its contract. The loop's invariant: the link is one of the byte's chain, and the occurrences before its
 -- place are written.
 -- Assumes nothing.
-use borrow.Author.Needs.{needs}
 use Prim.Native.Nat.{ℕ, _+_, _-_, _*_, _^_, _≤_, _<_}
 use mathlib.Core.Path.{_≡_, sym, ap, _∙_}
 use mathlib.Core.Logic.{⊎-elim}

@@ -1,6 +1,6 @@
 -- `matcher::compare::known_of` meets its contract: the first bits of a load of either run.
 -- Assumes nothing.
-use mathlib.Core.Path.{_≡_, refl}
+use mathlib.Core.Path.{refl}
 use native.Mathlib.Omega.{arith}
 use denote.Ref.{now}
 use borrow.Author.Needs.{needs}
