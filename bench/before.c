@@ -1,6 +1,6 @@
-// Times the library's searches against those of an earlier archive, on the same data in the same run. bench/run links that
-// archive with its search call under another name; where there is none, there is nothing to time. The earlier call has no
-// second run, so that all bits of the pattern are fixed in both.
+// Times the library's searches against those of an earlier archive, on the same data in the same run, with all bits of the
+// pattern fixed. bench/run links that archive with its calls under other names; where there is none, there is nothing to time.
+// For the list file see files.c.
 #include "bench.h"
 #include "draw.h"
 #include "library.h"
@@ -9,14 +9,14 @@
 #include <stdlib.h>
 #include <string.h>
 
-uint32_t before_search(const uint8_t *text, size_t text_len, uint64_t n, const uint8_t *pattern, size_t pattern_len, uint64_t m,
-                       uint32_t method, uint32_t mark, uint32_t budget, uint32_t *list, size_t list_len, uint64_t *scratch,
-                       size_t scratch_len, uint64_t *answer, size_t answer_len) __attribute__((weak));
+uint32_t before_search(const uint8_t *text, size_t text_len, uint64_t n, const uint8_t *pattern, size_t pattern_len,
+                       const uint8_t *fixed, size_t fixed_len, uint64_t m, uint32_t method, uint32_t mark, uint32_t budget,
+                       uint32_t *list, size_t list_len, uint64_t *scratch, size_t scratch_len, uint64_t *answer,
+                       size_t answer_len) __attribute__((weak));
 
 enum { BEFORE, NOW, PAIR, CALLS = 1000 };
 
-// More cells than any version asks.
-static uint64_t scratch[2 * CELLS];
+static uint64_t scratch[CELLS];
 
 // Calls from marks 0, 1, .. with a budget each; CALLS of them have the budget 1, and one has no limit.
 struct pair {
@@ -29,11 +29,10 @@ struct pair {
 
 static uint32_t search(struct pair *p, int who, uint32_t mark) {
     size_t bytes = (p->m + 7) / 8;
-    if (who == NOW)
-        return mitongory_search(p->t, p->n / 8, p->n, p->w, bytes, every_bit, bytes, p->m, p->method, mark, p->budget, p->list,
-                                p->cells, scratch, scratch_cells(p->method, p->m), p->answers[who], MITONGORY_ANSWER_CELLS);
-    return before_search(p->t, p->n / 8, p->n, p->w, bytes, p->m, p->method, mark, p->budget, p->list, p->cells, scratch,
-                         sizeof scratch / sizeof *scratch, p->answers[who], MITONGORY_ANSWER_CELLS);
+    return (who == NOW ? mitongory_search : before_search)(p->t, p->n / 8, p->n, p->w, bytes, every_bit, bytes, p->m, p->method,
+                                                           mark, p->budget, p->list, p->cells, scratch,
+                                                           scratch_cells(p->method, p->m), p->answers[who],
+                                                           MITONGORY_ANSWER_CELLS);
 }
 
 static void run(void *of, int who) {
@@ -91,7 +90,7 @@ void time_before(void) {
         fprintf(stderr, "bench before: no earlier archive is linked\n");
         exit(2);
     }
-    head(" text | m | method | scratch now | before | now | now / before ");
+    head(" text | m | method | scratch | before | now | now / before ");
     for (size_t z = 0; z < sizeof zeros / sizeof *zeros; z++) {
         char what[32];
         snprintf(what, sizeof what, "%u %% zeros", zeros[z]);
@@ -116,4 +115,5 @@ void time_before(void) {
         printf("| %s | %d | %.2f | %.2f | %.2f |\n", method_names[g], k, ratios[g][k / 2], ratios[g][0], ratios[g][k - 1]);
     }
     free(t), free(list);
+    time_files_before();
 }

@@ -7,7 +7,7 @@
 //   bench tables            calls on a text of one place, with wild bits of every kind against none
 //   bench files             the position list file, nanoseconds for a position
 //   bench sitting           the marking of a sitting, nanoseconds for a position
-//   bench before            searches by the library against an earlier archive of it, where one was linked
+//   bench before            searches and list files of the library against an earlier archive of it, where one was linked
 //   bench all               all of the timed parts, but for the last one
 #include "bench.h"
 #include <stdio.h>
@@ -46,7 +46,7 @@ int main(int count, char **args) {
         known = 1, time_tables();
     }
     if (all || !strcmp(mode, "files")) {
-        printf("\n## The position list file\n\nNanoseconds for each position.\n");
+        printf("\n## The position list file\n\nNanoseconds for each position. With no cells the file is judged, and the answer is refusal 14.\n");
         known = 1, time_files();
     }
     if (all || !strcmp(mode, "sitting")) {

@@ -11,6 +11,7 @@ void time_hard(void);
 void time_short(void);
 void time_tables(void);
 void time_files(void);
+void time_files_before(void);
 void time_sitting(void);
 void time_before(void);
 #endif

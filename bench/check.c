@@ -245,7 +245,7 @@ static long check_files(long rounds) {
         size_t bytes = said[0] ? below(BYTES) : count[0];
         for (size_t cut = below(4); cut; cut--) file[0][below(bytes + 1)] = below(2) ? (uint8_t)draw() : "\0\1\4\x80\xff"[below(5)];
         if (below(4) == 0) bytes = below(bytes + 3);
-        size_t room = below(4) ? MOST : below(MOST);
+        size_t room = below(2) ? MOST : below(MOST);
         count[0] = count[1] = 0;
         said[0] = mitongory_list_read(file[0], bytes, cells[0], room, count, 1);
         said[1] = c_list_read(file[0], bytes, cells[1], room, count + 1);

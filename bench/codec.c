@@ -55,7 +55,6 @@ uint32_t c_list_read(const uint8_t *file, size_t len, uint32_t *cells, size_t co
     size_t at = 0, from;
     uint32_t k, x, least = 0, fault = take(file, len, &at, &k);
     if (fault) return fault;
-    if (count < k) return 14;
     from = at;
     for (uint32_t i = 0; i < k; i++) {
         if ((fault = take(file, len, &at, &x))) return fault;
@@ -63,6 +62,7 @@ uint32_t c_list_read(const uint8_t *file, size_t len, uint32_t *cells, size_t co
         least += x + 1;
     }
     if (at < len) return 13;
+    if (count < k) return 14;
     least = 0;
     for (uint32_t i = 0; i < k; i++) {
         take(file, len, &from, &x);

@@ -80,21 +80,21 @@ extern "C" {
 
 /* The version of this header. */
 #define MITONGORY_VERSION_MAJOR 0
-#define MITONGORY_VERSION_MINOR 6
+#define MITONGORY_VERSION_MINOR 7
 #define MITONGORY_VERSION_PATCH 0
 #define MITONGORY_VERSION_NUMBER \
     (MITONGORY_VERSION_MAJOR * 10000 + MITONGORY_VERSION_MINOR * 100 + MITONGORY_VERSION_PATCH)
-#define MITONGORY_VERSION "0.6.0"
+#define MITONGORY_VERSION "0.7.0"
 
 /*
  * The version of the library, as a number. The name holds the version of the interface, so that a program that was
  * compiled for one interface links with no other.
  */
-uint32_t mitongory_version_0_6(void);
+uint32_t mitongory_version_0_7(void);
 
 static inline uint32_t mitongory_version(void)
 {
-    return mitongory_version_0_6();
+    return mitongory_version_0_7();
 }
 
 #ifdef __GNUC__
@@ -102,7 +102,7 @@ static inline uint32_t mitongory_version(void)
  * Every program refers to the function, also one that never asks for the version. (A linker that is told to drop unused
  * data, by --gc-sections, drops this reference too.)
  */
-static uint32_t (*const mitongory_version_needed)(void) __attribute__((used)) = mitongory_version_0_6;
+static uint32_t (*const mitongory_version_needed)(void) __attribute__((used)) = mitongory_version_0_7;
 #endif
 
 /*

@@ -9,7 +9,7 @@ const ARCHIVE: &str = "libmitongory.a";
 /// Names another folder than the repository's own.
 const DIR_VARIABLE: &str = "MITONGORY_LIB_DIR";
 
-/// The archive exports a function of this name and its version, major and minor: `mitongory_version_0_6`.
+/// The archive exports a function of this name and its version, major and minor: `mitongory_version_0_7`.
 const VERSION_SYMBOL: &str = "mitongory_version_";
 
 fn main() {
@@ -58,8 +58,8 @@ pub(crate) fn judge(dir: &Path, target: &str, version: &str) -> Result<(), Strin
     Err(format!("the crate has version {version} and needs {wanted}, but {path} exports {found}: run `make lib` again"))
 }
 
-/// The version symbols in an archive's bytes. Each is taken whole, so that `mitongory_version_0_6` is not found in
-/// `mitongory_version_0_60`, and the name of a section, in which a point comes before it, is none.
+/// The version symbols in an archive's bytes. Each is taken whole, so that `mitongory_version_0_7` is not found in
+/// `mitongory_version_0_70`, and the name of a section, in which a point comes before it, is none.
 fn version_symbols(archive: &[u8]) -> BTreeSet<String> {
     let prefix = VERSION_SYMBOL.as_bytes();
     let begins = |at: &usize| archive[*at..].starts_with(prefix) && (*at == 0 || archive[*at - 1] != b'.');

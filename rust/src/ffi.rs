@@ -18,7 +18,7 @@ pub const ANSWER_CELLS_MISSING: u32 = 101;
 // tests/library/boundary.rs tests them.
 mod raw {
     extern "C" {
-        pub(super) fn mitongory_version_0_6() -> u32;
+        pub(super) fn mitongory_version_0_7() -> u32;
         pub(super) fn mitongory_search(
             text: *const u8,
             text_len: usize,
@@ -96,13 +96,13 @@ mod raw {
 
 // Kept in every program, used or not, so that the linker refuses an archive of another version.
 #[used]
-static VERSION: unsafe extern "C" fn() -> u32 = raw::mitongory_version_0_6;
+static VERSION: unsafe extern "C" fn() -> u32 = raw::mitongory_version_0_7;
 
 /// The archive's version, as major * 10,000 + minor * 100 + patch.
 #[must_use]
 pub fn version() -> u32 {
     // SAFETY: the function takes nothing and returns a number.
-    unsafe { raw::mitongory_version_0_6() }
+    unsafe { raw::mitongory_version_0_7() }
 }
 
 /// A search call. A 1 in the run `fixed` is a bit of the pattern that is compared, a 0 one that is wild. Method 0 is plain,

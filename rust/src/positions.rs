@@ -12,7 +12,7 @@
 //! let file = positions::encode(&[0, 6, 12])?;
 //! assert_eq!(file, [3, 0, 5, 5]);
 //! assert_eq!(positions::decode(&file)?, [0, 6, 12]);
-//! assert_eq!(positions::decode(&file[..3]), Err(Refusal::CellsMissing));
+//! assert_eq!(positions::decode(&file[..3]), Err(Refusal::FileEndsEarly));
 //! # Ok(())
 //! # }
 //! ```
@@ -79,14 +79,15 @@ pub fn encode(list: &[u32]) -> Result<Vec<u8>, Refusal> {
 /// assert_eq!(positions::decode_into(&[3, 0, 5, 5], &mut cells), Ok(3));
 /// assert_eq!(cells, [0, 6, 12, 7]);
 /// assert_eq!(positions::decode_into(&[3, 0, 5, 5], &mut cells[..2]), Err(Refusal::CellsMissing));
+/// assert_eq!(positions::decode_into(&[3, 0, 5], &mut cells[..2]), Err(Refusal::FileEndsEarly));
 /// ```
 ///
 /// # Errors
 ///
 /// The file's first fault from front to back, refusals 10 to 13: it [ends early](Refusal::FileEndsEarly), a number is
 /// [not in the fewest groups](Refusal::NumberNotShortest) or [too large](Refusal::NumberTooLarge), or bytes
-/// [are left over](Refusal::BytesLeftOver); and [`Refusal::CellsMissing`] right after the count where it is above the
-/// number of cells.
+/// [are left over](Refusal::BytesLeftOver). A bad file gets its fault however many cells there are. Last, for a good file,
+/// [`Refusal::CellsMissing`] where its count is above the number of cells.
 pub fn decode_into(file: &[u8], cells: &mut [u32]) -> Result<usize, Refusal> {
     call::answer(|cell| ffi::list_read(file, cells, cell))
 }
@@ -94,18 +95,20 @@ pub fn decode_into(file: &[u8], cells: &mut [u32]) -> Result<usize, Refusal> {
 /// A file's list.
 ///
 /// The count in front of a file may claim up to 2^30 positions, so it is not trusted: a cell is lent for each byte
-/// after the first, which is enough, since count and positions take a byte or more each.
+/// after the first, which is proved to be enough for every good file. So each bad file gets its own fault, and no file
+/// is refused for want of cells.
 ///
 /// ```
 /// use mitongory::{positions, Refusal};
 ///
 /// assert_eq!(positions::decode(&[3, 0, 5, 5]), Ok(vec![0, 6, 12]));
-/// assert_eq!(positions::decode(&[0xff, 0xff, 0xff, 0xff, 0x03, 0]), Err(Refusal::CellsMissing));
+/// assert_eq!(positions::decode(&[0xff, 0xff, 0xff, 0xff, 0x03, 0]), Err(Refusal::FileEndsEarly));
+/// assert_eq!(positions::decode(&[3, 0, 0x80, 0]), Err(Refusal::NumberNotShortest));
 /// ```
 ///
 /// # Errors
 ///
-/// As [`decode_into`]. [`Refusal::CellsMissing`] means here that the count is larger than the file's bytes can hold.
+/// The file's first fault, refusals 10 to 13 as in [`decode_into`]; never [`Refusal::CellsMissing`].
 pub fn decode(file: &[u8]) -> Result<Vec<u32>, Refusal> {
     let mut cells = vec![0; file.len().saturating_sub(1).min(MOST)];
     let count = decode_into(file, &mut cells)?;

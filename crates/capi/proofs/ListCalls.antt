@@ -1,8 +1,9 @@
--- Demand 2 from one call to the next, in what C sees: results, the first answer cell and the buffers. An accepted call keeps the
--- promise of the list file's own call, so its theorems hold here.
+-- The list file in what C sees, results, the first answer cell and the buffers: demand 2 from one call to the next, and what a
+-- result of the reader says of the file. An accepted call keeps the promise of the list file's own call, so its theorems hold
+-- here.
 -- Assumes nothing.
-use Prim.Native.Nat.{ℕ, _≤_}
-use mathlib.Core.Path.{_≡_, refl, sym}
+use Prim.Native.Nat.{ℕ, _≤_, _<_}
+use mathlib.Core.Path.{_≡_, refl, sym, ap, _∙_}
 use mathlib.Core.Bool.{Bool, true, false}
 use mathlib.Core.List.{List, [], _∷_, _++_}
 use native.Mathlib.Omega.{arith}
@@ -18,9 +19,10 @@ use Rattle.positions.specs.declared.Written.the-variants.{Bytes}
 use Rattle.positions.specs.declared.ReadAnswer.the-variants.{Count}
 use Rattle.positions.proofs.Answers.{refused-number, write-counted}
 use Rattle.positions.proofs.Decoded.{fault-number}
+use Rattle.positions.proofs.BadFileFirst.{bad-file-first}
 use Rattle.positions.proofs.CallToCall.{written-decodes, read-encodes}
 use Rattle.capi.specs.Told.{answerCellsMissing, gives, Tells}
-use Rattle.capi.specs.ListFile.{countTells, writeVerdict, ListWritten, readVerdict, ListRead, told, Puts}
+use Rattle.capi.specs.ListFile.{countTells, writeVerdict, ListWritten, readVerdict, ListRead, ResultTells, told, Puts}
 use Rattle.capi.proofs.Telling.{enough-cells}
 
 -- ---- an accepted call is a call of the list file that was accepted
@@ -52,6 +54,39 @@ as-read {file} {cells} {answer} {cells′} {answer′} r = go (ltb (length answe
     go : (few : Bool) → ltb (length answer) 1 ≡ few → Reads file cells (Count (told answer′)) cells′
     go true h = absurd (omega (arith, rw h at (r .tells .result-is)))
     go false h = own (decode file (length cells)) refl (rw h at (r .tells)) (rw h at (r .cells-is))
+
+-- ---- what a result of the reader says of the file
+
+-- a call with an answer cell tells what the list file's own call does
+read-tells : {file cells answer cells′ answer′ : List ℕ} {result : ℕ} → ListRead file cells answer result cells′ answer′ → 1 ≤ length answer
+    → Tells (countTells (readAnswer (decode file (length cells)))) answer result answer′
+unfolding readVerdict
+read-tells {file} {cells} {answer} r h =
+    rw (enough-cells 1 answer (fault answerCellsMissing) (decode file (length cells)) h) at (r .tells)
+
+told-fault : {answer answer′ : List ℕ} {result n : ℕ} (d : Result (List ℕ)) → d ≡ fault n → Tells (countTells (readAnswer d)) answer result answer′
+    → result ≡ n
+unfolding readAnswer
+told-fault d e t = rw e at t .result-is
+
+fault-told : {answer answer′ : List ℕ} {result : ℕ} (d : Result (List ℕ)) → 0 < result → Tells (countTells (readAnswer d)) answer result answer′
+    → d ≡ fault result
+unfolding readAnswer
+fault-told (fault n) h t = ap fault (sym (t .result-is))
+fault-told (ok l) h t = absurd (omega (arith, t .result-is))
+
+pub result-tells : {file cells answer cells′ answer′ : List ℕ} {result : ℕ} → ListRead file cells answer result cells′ answer′ → 1 ≤ length answer
+    → ResultTells file (length cells) result
+result-tells {file} {cells} {answer} {cells′} {answer′} {result} r h =
+    let first = bad-file-first file in
+    let d = decode file (length cells) in
+    let t = read-tells r h in
+    record {
+      bad = λ n e. told-fault d (first .bad n e (length cells)) t;
+      fault-is = λ lo hi. first .own result (length cells) (omega arith) (fault-told d (omega arith) t);
+      kept = λ g. told-fault d (first .kept (length cells) g) t;
+      only = λ e. first .only (length cells) (fault-told d (omega arith) t ∙ ap fault e);
+    }
 
 -- ---- two calls
 

@@ -1,11 +1,12 @@
 -- The position list file: the byte count that a list needs, the writer and the reader.
-use Prim.Native.Nat.{ℕ}
+use Prim.Native.Nat.{ℕ, _≤_}
 use mathlib.Core.Path.{_≡_}
 use mathlib.Core.List.{List, [], _∷_, _++_}
 use lib.ListN.{length, drop, getD}
 use Rattle.positions.specs.Basics.{Result, fault}
 use Rattle.positions.specs.Encode.{encode}
-use Rattle.positions.specs.Decode.{decode}
+use Rattle.positions.specs.Decode.{contents, decode}
+use Rattle.positions.specs.BadFileFirst.{GoodWithFewCells}
 use Rattle.positions.specs.Promise.{Answer, count, refused, sizeAnswer, writeAnswer, leaves, readAnswer, readCells}
 use Rattle.capi.specs.Told.{answerCellsMissing, Told, gives, refuses, unlessCells, Tells}
 
@@ -37,6 +38,15 @@ readVerdict file cells answer =
 pub record ListRead (file cells answer : List ℕ) (result : ℕ) (cells′ answer′ : List ℕ) : Type 0 where
   pub tells : Tells (countTells (readAnswer (readVerdict file cells answer))) answer result answer′
   pub cells-is : cells′ ≡ readCells (readVerdict file cells answer) cells
+
+-- What the result of a call of the reader that has an answer cell says of the file (document 02, A6): 10 to 13 are the fault of
+-- the file, with no word of cells, and 14 is given exactly for a good file whose count is above the number of cells. The
+-- theorem is `result-tells` in proofs/ListCalls.antt.
+pub record ResultTells (file : List ℕ) (cells result : ℕ) : Type 0 where
+  pub bad : (n : ℕ) → contents file ≡ fault n → result ≡ n
+  pub fault-is : 10 ≤ result → result ≤ 13 → contents file ≡ fault result
+  pub kept : GoodWithFewCells file cells → result ≡ 14
+  pub only : result ≡ 14 → GoodWithFewCells file cells
 
 -- ---- the writer and then the reader, or the reader and then the writer (demand 2), in what C sees
 

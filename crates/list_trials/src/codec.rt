@@ -1,4 +1,4 @@
-// A naive writer and reader of the position list file, from document 01's words. Faults are their numbers above REFUSED.
+// A naive writer and reader of the position list file, from the words of documents 01 and 02. Faults are their numbers above REFUSED.
 use draws::cells::get32;
 use draws::number::byte;
 use draws::number::minus;
@@ -94,16 +94,13 @@ fn get_number(file: &[u8], start: usize, base: usize, top: usize) -> Number {
     }
 }
 
-// The count of a file's positions, or its first fault; and whether the cells hold the positions.
+// The count of a file's positions, or its first fault, or 14 for a good file; and whether the cells hold the positions.
 pub(crate) fn decode(file: &[u8], room: usize, cells: &[u32]) -> Judged {
     let first = get_number(file, 0, 0, LIMIT);
     if 0 < first.fault {
         return refused(first.fault);
     }
     let count = first.value;
-    if room < count {
-        return refused(REFUSED + 14);
-    }
     let mut good = true;
     let mut at = first.after;
     let mut least: usize = 0;
@@ -120,6 +117,9 @@ pub(crate) fn decode(file: &[u8], room: usize, cells: &[u32]) -> Judged {
     }
     if at < file.len() {
         return refused(REFUSED + 13);
+    }
+    if room < count {
+        return refused(REFUSED + 14);
     }
     Judged {
         good: good,

@@ -181,7 +181,7 @@ fn damaged(s: &mut [u8], size: usize, x: usize) -> usize {
     minus(plus(size, choose(&SIZES, draw(x, 18, 6), x, 12)), 3)
 }
 
-// Cells for what is read, too few or enough: up to 12 once in four draws, or 16 to 24.
+// Cells for what is read, too few or enough: up to 12 once in two draws, or 16 to 24.
 const CELLS: [usize; 4] = [0, 13, 16, 9];
 
 // The target of the list's file of so many bytes, out of four: any few bytes, about those that it needs, or many more.
@@ -214,7 +214,7 @@ pub(crate) fn drawn_read(x: usize, s: &mut [u8; 813]) -> bool {
     let k = draw(x, 0, 13);
     draw_list(&mut list, k, x);
     let size = draw_file(cells::part32(&list, k), x, s);
-    let room = choose(&CELLS, draw(x, 16, 4), x, 17);
+    let room = choose(&CELLS, draw(x, 16, 2), x, 17);
     let got = read(packed::part(s, FILE, size), room, x, &mut list);
     got.good
 }

@@ -58,7 +58,7 @@ const NAMES: [u8; 192] = *b"\
     sittings of 255 to 257 sheets   \
     named sittings                  ";
 
-const COUNTS: [usize; 12] = [23, 60000, 20, 60000, 17, 11, 9, 60000, 30, 1000, 15, 35];
+const COUNTS: [usize; 12] = [23, 60000, 20, 60000, 17, 20, 9, 60000, 30, 1000, 15, 35];
 
 fn main() {
     let mut wrong: usize = 0;

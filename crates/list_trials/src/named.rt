@@ -1,5 +1,5 @@
 // Named cases: the course's papers of the position list file, and the examples of rows 8 to 14 of the table of refusals, in
-// document 01. Each is also compared with the naive side.
+// document 01, and those of document 02, A6. Each is also compared with the naive side.
 use crate::codec::FILE;
 use crate::codec::REFUSED;
 use crate::files;
@@ -18,7 +18,7 @@ struct Row(usize, usize, usize, usize, usize, usize, usize, usize);
 // others are and their count; the bytes of the target, which are the cells too, and what is written; a file and its bytes,
 // and what is read. A row about a list has an empty list's file beside it, and a row about a file has an empty list; the
 // first rows are about both, and the file is the list's.
-const LISTS: [Row; 11] = [
+const LISTS: [Row; 20] = [
     Row(0, 6, 3, 8, 4, 0x03000505, 4, 3),
     Row(300, 0, 1, 8, 3, 0x01ac02, 3, 1),
     Row(0, 0, 0, 8, 1, 0x00, 1, 0),
@@ -30,10 +30,20 @@ const LISTS: [Row; 11] = [
     Row(0, 0, 0, 1, 1, 0x018080808004, 6, REFUSED + 12),
     Row(0, 0, 0, 1, 1, 0x0000, 2, REFUSED + 13),
     Row(0, 0, 0, 0, REFUSED + 9, 0x0105, 2, REFUSED + 14),
+    // Document 02, A6: a bad file with fewer cells than its count, and the last a sound one.
+    Row(0, 0, 0, 0, REFUSED + 9, 0x0205, 2, REFUSED + 10),
+    Row(0, 0, 0, 1, 1, 0x0205, 2, REFUSED + 10),
+    Row(0, 0, 0, 0, REFUSED + 9, 0x808080800400, 6, REFUSED + 10),
+    Row(0, 0, 0, 1, 1, 0x02058000, 4, REFUSED + 11),
+    Row(0, 0, 0, 1, 1, 0x028180808004, 6, REFUSED + 12),
+    Row(0, 0, 0, 1, 1, 0x02ffffffff0300, 7, REFUSED + 12),
+    Row(0, 0, 0, 0, REFUSED + 9, 0x010500, 3, REFUSED + 13),
+    Row(0, 0, 0, 1, 1, 0x02050500, 4, REFUSED + 13),
+    Row(0, 0, 0, 1, 1, 0x020505, 3, REFUSED + 14),
 ];
 
 fn of_list(i: usize) -> Row {
-    LISTS[i % 11]
+    LISTS[i % 20]
 }
 
 // Fills the cells with first, first + apart, first + 2 apart and so on.

@@ -14,13 +14,13 @@ use Rattle.rules.specs.Machine.{stopped, cut, after, run}
 use Rattle.rules.specs.Papers.{marksFrom}
 use Rattle.positions.specs.Rising.{risesFrom, rising}
 use Rattle.positions.specs.Encode.{groups, encodeNumber, encodeFrom, encode}
-use Rattle.positions.specs.Decode.{lastGroup, readGroups, readNumber, readPosition, readBody, whole, decode}
+use Rattle.positions.specs.Decode.{lastGroup, readGroups, readNumber, readPosition, readBody, whole, contents, decode}
 use Rattle.marking.specs.Marks.{on, filter, both, only, marks}
 use Rattle.marking.specs.Sitting.{sum, sheetsOf, allRise, allMarks, totalsOf, verdict}
 use Rattle.papers.specs.Papers.{Papers}
 
 pub papers : Papers
-unfolding bitAt bitsAt every among least greatest isFixed agrees matches occurs occurrences fromBits inRow fixedInRow rowBit maskBit rowByte rowMask rowFits plainFinds meets hashOf hashAgain lastEight hashFinds hashNext shows shownAt skipFinds counts stands flagged wideFinds lastIndex wideNext prefixEnds tailLength tailFinds tailNext finds ahead next stopped cut after run marksFrom groups encodeNumber encodeFrom encode lastGroup readGroups readNumber readPosition readBody whole decode risesFrom rising on filter both only marks sum sheetsOf allRise allMarks totalsOf verdict
+unfolding bitAt bitsAt every among least greatest isFixed agrees matches occurs occurrences fromBits inRow fixedInRow rowBit maskBit rowByte rowMask rowFits plainFinds meets hashOf hashAgain lastEight hashFinds hashNext shows shownAt skipFinds counts stands flagged wideFinds lastIndex wideNext prefixEnds tailLength tailFinds tailNext finds ahead next stopped cut after run marksFrom groups encodeNumber encodeFrom encode lastGroup readGroups readNumber readPosition readBody whole contents decode risesFrom rising on filter both only marks sum sheetsOf allRise allMarks totalsOf verdict
 papers =
     record {
       r1-v1 = refl;

@@ -1,35 +1,58 @@
--- Laws of `whole` and `decode`, and what they leave in the cells.
+-- Laws of `whole`, `contents` and `decode`, and what they leave in the cells.
 use Prim.Native.Nat.{ℕ, zero, suc, _+_, _-_, _*_, _≤_, _<_}
-use mathlib.Core.Path.{_≡_, refl}
+use mathlib.Core.Path.{_≡_, refl, sym, ap, _∙_}
 use mathlib.Core.Bool.{Bool, true, false, _&&_}
 use mathlib.Core.List.{List, [], _∷_}
 use native.Mathlib.Omega.{arith}
+use native.Mathlib.Decide.{decLe}
 use borrow.Author.Tests.{le-leb, lt-leb}
 use lib.Dec.{leb, ltb, eqb}
 use lib.ListN.{length}
 use lib.Seq.{sets}
 use Rattle.positions.specs.Basics.{limit, pick, Result, ok, fault, andThen, isEmpty}
-use Rattle.positions.specs.Decode.{lastGroup, readGroups, readNumber, readPosition, readBody, whole, decode}
+use Rattle.positions.specs.Decode.{lastGroup, readGroups, readNumber, readPosition, readBody, whole, contents, decode}
 use Rattle.positions.specs.Promise.{count, refused, readAnswer, readCells, readRefusal, Reads}
 use Rattle.positions.specs.Inner.{accepts, positionsOf}
 use Rattle.positions.specs.declared.ReadRefusal.{ReadRefusal}
 use Rattle.positions.specs.declared.ReadAnswer.the-variants.{Count, Refused}
 use Rattle.positions.proofs.Stores.{sets-front}
+use Rattle.positions.proofs.ReadGroups.{fault-ok, fault-same, ok-same, number-le, number-shorter}
+use Rattle.positions.proofs.ReadBody.{body-holds}
 
--- ---- which way `decode` goes, by the count
+-- ---- which way `contents` goes, by the count, and `decode`, by the cells
 
-pub decode-fault : (file : List ℕ) (cells n : ℕ) → readNumber file ≡ fault n → decode file cells ≡ fault n
+pub contents-fault : (file : List ℕ) (n : ℕ) → readNumber file ≡ fault n → contents file ≡ fault n
+unfolding contents
+contents-fault file n e = rw e
+
+pub contents-body : (file : List ℕ) (k : ℕ) (rest : List ℕ) → readNumber file ≡ ok (k, rest) → contents file ≡ whole (readBody k 0 rest)
+unfolding contents
+contents-body file k rest e = rw e
+
+pub decode-bad : (file : List ℕ) (cells n : ℕ) → contents file ≡ fault n → decode file cells ≡ fault n
 unfolding decode
-decode-fault file cells n e = rw e
+decode-bad file cells n e = rw e
 
-pub decode-few : (file : List ℕ) (cells k : ℕ) (rest : List ℕ) → readNumber file ≡ ok (k, rest) → cells < k → decode file cells ≡ fault 14
+pub decode-few : (file : List ℕ) (cells : ℕ) (l : List ℕ) → contents file ≡ ok l → cells < length l → decode file cells ≡ fault 14
 unfolding decode
-decode-few file cells k rest e h = rw (e, lt-leb k cells h)
+decode-few file cells l e h = rw (e, lt-leb (length l) cells h)
 
-pub decode-body : (file : List ℕ) (cells k : ℕ) (rest : List ℕ) → readNumber file ≡ ok (k, rest) → k ≤ cells
-    → decode file cells ≡ whole (readBody k 0 rest)
+pub decode-good : (file : List ℕ) (cells : ℕ) (l : List ℕ) → contents file ≡ ok l → length l ≤ cells → decode file cells ≡ ok l
 unfolding decode
-decode-body file cells k rest e h = rw (e, le-leb k cells h)
+decode-good file cells l e h = rw (e, le-leb (length l) cells h)
+
+pub decode-taken : (file : List ℕ) (cells : ℕ) (l : List ℕ) → decode file cells ≡ ok l → (contents file ≡ ok l) × (length l ≤ cells)
+decode-taken file cells l e = go (contents file) refl
+  where
+    go : (r : Result (List ℕ)) → contents file ≡ r → (contents file ≡ ok l) × (length l ≤ cells)
+    go (fault n) c = absurd (fault-ok (sym (decode-bad file cells n c) ∙ e))
+    go (ok m) c =
+        elim (decLe (length m) cells) [
+          | yes h ↦
+              let same : m ≡ l = ok-same (sym (decode-good file cells m c h) ∙ e) in
+              (c ∙ ap ok same, omega (arith, h, ap length same))
+          | no h ↦ absurd (fault-ok (sym (decode-few file cells m c (omega arith)) ∙ e))
+        ]
 
 -- ---- from an answer back to what was decoded
 
@@ -38,21 +61,73 @@ unfolding readAnswer
 refused-fault (fault m) n e = cc
 refused-fault (ok l) n e = let z : _≡_ {A = ℕ} 0 1 = cc in absurd (omega arith)
 
--- a body that is the whole file: its positions are the list
-pub whole-positions : (r : Result (List ℕ × List ℕ)) (n : ℕ) → count n ≡ readAnswer (whole r) → (accepts r ≡ true) × (whole r ≡ ok (positionsOf r))
-unfolding readAnswer whole
-whole-positions (fault m) n e = let z : _≡_ {A = ℕ} 0 1 = cc in absurd (omega arith)
-whole-positions (ok b) n e = go (b .1) e
-  where
-    go : (rest : List ℕ) → count n ≡ readAnswer (pick (isEmpty rest) (ok (b .0)) (fault 13)) → (true ≡ true) × (pick (isEmpty rest) (ok (b .0)) (fault 13) ≡ ok (b .0))
-    go [] q = (refl, refl)
-    go (x ∷ xs) q = let z : _≡_ {A = ℕ} 0 1 = cc in absurd (omega arith)
+counted-ok : (d : Result (List ℕ)) (n : ℕ) → count n ≡ readAnswer d → (l : List ℕ) × (d ≡ ok l)
+unfolding readAnswer
+counted-ok (fault m) n e = let z : _≡_ {A = ℕ} 0 1 = cc in absurd (omega arith)
+counted-ok (ok l) n e = (l, refl)
 
--- ---- the reader's faults are those of document 01's table, 10 to 14
+-- ---- a good file
+
+-- a body that is the whole file: its positions are the list
+whole-taken : (r : Result (List ℕ × List ℕ)) (l : List ℕ) → whole r ≡ ok l → (accepts r ≡ true) × (positionsOf r ≡ l)
+unfolding whole
+whole-taken (fault m) l e = absurd (fault-ok e)
+whole-taken (ok b) l e = go (b .1) e
+  where
+    go : (rest : List ℕ) → pick (isEmpty rest) (ok (b .0)) (fault 13) ≡ ok l → (true ≡ true) × (b .0 ≡ l)
+    go [] q = (refl, ok-same q)
+    go (x ∷ xs) q = absurd (fault-ok q)
+
+-- the body of a good file after its count k, with the list l: there is no fault in it, and k is the list's length
+pub record Holds (k : ℕ) (rest l : List ℕ) : Type 0 where
+  pub accepted : accepts (readBody k 0 rest) ≡ true
+  pub list-is : positionsOf (readBody k 0 rest) ≡ l
+  pub length-is : length l ≡ k
+  pub shorter : k ≤ length rest
+
+pub body-list : (k : ℕ) (rest l : List ℕ) → whole (readBody k 0 rest) ≡ ok l → Holds k rest l
+body-list k rest l e =
+    let t = whole-taken (readBody k 0 rest) l e in
+    let held = body-holds k 0 rest (t .0) in
+    record { accepted = t .0; list-is = t .1; length-is = sym (ap length (t .1)) ∙ held .0; shorter = held .1 }
+
+-- the same of a body that was judged good: the list that the file holds
+pub judged-list : (file : List ℕ) (k : ℕ) (rest : List ℕ) (n : ℕ) → readNumber file ≡ ok (k, rest) → count n ≡ readAnswer (whole (readBody k 0 rest))
+    → (l : List ℕ) × (contents file ≡ ok l) × Holds k rest l
+judged-list file k rest n e a =
+    let t = counted-ok (whole (readBody k 0 rest)) n a in
+    (t .0, contents-body file k rest e ∙ t .1, body-list k rest (t .0) (t .1))
+
+-- a good file's count is the length of its list, which is below the number of bytes and not above the limit
+pub record Counted (file l : List ℕ) : Type 0 where
+  pub rest : List ℕ
+  pub number : readNumber file ≡ ok (length l, rest)
+  pub held : whole (readBody (length l) 0 rest) ≡ ok l
+  pub below : length l < length file
+  pub within : length l ≤ limit
+
+pub counted : (file l : List ℕ) → contents file ≡ ok l → Counted file l
+counted file l e = go (readNumber file) refl
+  where
+    go : (r : Result (ℕ × List ℕ)) → readNumber file ≡ r → Counted file l
+    go (fault n) c = absurd (fault-ok (sym (contents-fault file n c) ∙ e))
+    go (ok r) c =
+        let held : whole (readBody (r .0) 0 (r .1)) ≡ ok l = sym (contents-body file (r .0) (r .1) c) ∙ e in
+        let h = body-list (r .0) (r .1) l held in
+        let same : r .0 ≡ length l = sym (h .length-is) in
+        record {
+          rest = r .1;
+          number = c ∙ ap (λ (k : ℕ). ok (k, r .1)) same;
+          held = rw (← same) held;
+          below = omega (arith, same, h .shorter, number-shorter file (r .0) (r .1) c);
+          within = omega (arith, same, number-le file (r .0) (r .1) c);
+        }
+
+-- ---- a file's faults are those of document 01's table from 10 to 13, and the reader's refusals those up to 14
 
 abbrev Numbered : {A : Type 0} → Result A → Type 0
 Numbered (ok a) = Unit
-Numbered (fault n) = (10 ≤ n) × (n ≤ 14)
+Numbered (fault n) = (10 ≤ n) × (n ≤ 13)
 
 either : {A : Type 0} (b : Bool) (x y : Result A) → Numbered x → Numbered y → Numbered (pick b x y)
 either true x y hx hy = hx
@@ -95,14 +170,29 @@ whole-numbered : (body : Result (List ℕ × List ℕ)) → Numbered body → Nu
 unfolding whole
 whole-numbered body h = then body _ h (λ b. either (isEmpty (b .1)) (ok (b .0)) (fault 13) tt (omega arith, omega arith))
 
-decode-numbered : (file : List ℕ) (cells : ℕ) → Numbered (decode file cells)
-unfolding decode
-decode-numbered file cells =
-    then (readNumber file) _ (number-numbered file)
-    (λ r. either (leb (r .0) cells) _ (fault 14) (whole-numbered (readBody (r .0) 0 (r .1)) (body-numbered (r .0) 0 (r .1))) (omega arith, omega arith))
+contents-numbered : (file : List ℕ) → Numbered (contents file)
+unfolding contents
+contents-numbered file =
+    then (readNumber file) _ (number-numbered file) (λ r. whole-numbered (readBody (r .0) 0 (r .1)) (body-numbered (r .0) 0 (r .1)))
+
+pub contents-number : (file : List ℕ) (n : ℕ) → contents file ≡ fault n → (10 ≤ n) × (n ≤ 13)
+contents-number file n e = rw e at (contents-numbered file)
 
 pub fault-number : (file : List ℕ) (cells n : ℕ) → decode file cells ≡ fault n → (10 ≤ n) × (n ≤ 14)
-fault-number file cells n e = rw e at (decode-numbered file cells)
+fault-number file cells n e = go (contents file) refl
+  where
+    go : (r : Result (List ℕ)) → contents file ≡ r → (10 ≤ n) × (n ≤ 14)
+    go (fault m) c =
+        let same : m ≡ n = fault-same (sym (decode-bad file cells m c) ∙ e) in
+        let h = contents-number file m c in
+        (omega (arith, same, h .0), omega (arith, same, h .1))
+    go (ok l) c =
+        elim (decLe (length l) cells) [
+          | yes h ↦ absurd (fault-ok (sym e ∙ decode-good file cells l c h))
+          | no h ↦
+              let same : 14 ≡ n = fault-same (sym (decode-few file cells l c (omega arith)) ∙ e) in
+              (omega (arith, same), omega (arith, same))
+        ]
 
 -- ---- the promise of `read`
 

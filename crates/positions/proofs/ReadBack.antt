@@ -11,12 +11,12 @@ use lib.ListN.{length}
 use Rattle.positions.specs.Basics.{limit, pick, ok, fault, isEmpty}
 use Rattle.positions.specs.Rising.{risesFrom, rising}
 use Rattle.positions.specs.Encode.{encodeNumber, encodeFrom, encode}
-use Rattle.positions.specs.Decode.{readGroups, readNumber, readPosition, readBody, whole, decode}
+use Rattle.positions.specs.Decode.{readGroups, readNumber, readPosition, readBody, whole, contents}
 use Rattle.positions.proofs.Groups.{one-byte, more-bytes}
 use Rattle.positions.proofs.Rising.{rises-taken, rises-length}
 use Rattle.positions.proofs.ReadGroups.{Fewest, fewest-last, last-ok}
 use Rattle.positions.proofs.ReadBody.{position-ok, prepend, body-suc}
-use Rattle.positions.proofs.Decoded.{decode-body, decode-few}
+use Rattle.positions.proofs.Decoded.{contents-body}
 
 -- the lowest group and the groups above it, each at its weight
 pub regroup : (v q r w : ℕ) → v + r * w + q * (w * 128) ≡ v + (q * 128 + r) * w
@@ -78,19 +78,11 @@ body-back next (p ∷ ps) rest r =
 
 -- ---- a whole file, and what follows it
 
-pub file-back : (l more : List ℕ) (cells : ℕ) → rising l ≡ true → length l ≤ cells → decode (encode l ++ more) cells ≡ pick (isEmpty more) (ok l) (fault 13)
+pub file-back : (l more : List ℕ) → rising l ≡ true → contents (encode l ++ more) ≡ pick (isEmpty more) (ok l) (fault 13)
 unfolding encode rising whole
-file-back l more cells r h =
+file-back l more r =
     let short : length l ≤ limit = omega (arith, rises-length 0 l (omega arith) r) in
     let split = append-assoc (encodeNumber (length l)) (encodeFrom 0 l) more in
-    ap (λ (file : List ℕ). decode file cells) split
-    ∙ decode-body (encodeNumber (length l) ++ (encodeFrom 0 l ++ more)) cells (length l) (encodeFrom 0 l ++ more) (number-back (length l) (encodeFrom 0 l ++ more) short) h
+    ap contents split
+    ∙ contents-body (encodeNumber (length l) ++ (encodeFrom 0 l ++ more)) (length l) (encodeFrom 0 l ++ more) (number-back (length l) (encodeFrom 0 l ++ more) short)
     ∙ ap whole (body-back 0 l more r)
-
--- with fewer cells than the count nothing that follows matters
-pub file-few : (l more : List ℕ) (cells : ℕ) → rising l ≡ true → cells < length l → decode (encode l ++ more) cells ≡ fault 14
-unfolding encode rising
-file-few l more cells r h =
-    let short : length l ≤ limit = omega (arith, rises-length 0 l (omega arith) r) in
-    ap (λ (file : List ℕ). decode file cells) (append-assoc (encodeNumber (length l)) (encodeFrom 0 l) more)
-    ∙ decode-few (encodeNumber (length l) ++ (encodeFrom 0 l ++ more)) cells (length l) (encodeFrom 0 l ++ more) (number-back (length l) (encodeFrom 0 l ++ more) short) h

@@ -12,7 +12,7 @@ use Rattle.positions.specs.Basics.{limit, pick, Result, ok, fault, andTh
 use Rattle.positions.specs.Decode.{readNumber, readPosition, readBody, whole}
 use Rattle.positions.specs.Promise.{Answer, count, refused, readAnswer}
 use Rattle.positions.specs.Inner.{accepts, positionsOf}
-use Rattle.positions.proofs.ReadGroups.{fault-ok, ok-pair}
+use Rattle.positions.proofs.ReadGroups.{fault-ok, ok-pair, number-shorter}
 
 -- ---- one position
 
@@ -45,6 +45,12 @@ position-taken next bytes p rest e = go (readNumber bytes) refl
               (r .0, h ∙ ap (λ (t : List ℕ). ok (r .0, t)) (q .1), sym (q .0), omega (arith, q .0))
           | no l ↦ absurd (fault-ok (rw (h, le-ltb (next + r .0) limit (omega arith)) at e))
         ]
+
+-- a position takes a byte or more
+pub position-shorter : (next : ℕ) (bytes : List ℕ) (p : ℕ) (rest : List ℕ) → readPosition next bytes ≡ ok (p, rest) → length rest < length bytes
+position-shorter next bytes p rest e =
+    let t = position-taken next bytes p rest e in
+    number-shorter bytes (t .0) rest (t .1)
 
 -- ---- the body
 
@@ -110,20 +116,27 @@ pub positions-prepend : (p : ℕ) (r : Result (List ℕ × List ℕ)) → accept
 positions-prepend p (ok b) h = refl
 positions-prepend p (fault n) h = absurd (false≢true h)
 
--- a body has as many positions as were asked for
-pub body-length : (k next : ℕ) (bytes : List ℕ) → accepts (readBody k next bytes) ≡ true → length (positionsOf (readBody k next bytes)) ≡ k
+-- a body has as many positions as were asked for, and a byte or more for each
+abbrev pub BodyHolds : ℕ → ℕ → List ℕ → Type 0
+BodyHolds k next bytes = (length (positionsOf (readBody k next bytes)) ≡ k) × (k ≤ length bytes)
+
+pub body-holds : (k next : ℕ) (bytes : List ℕ) → accepts (readBody k next bytes) ≡ true → BodyHolds k next bytes
 unfolding readBody
-body-length zero next bytes h = refl
-body-length (suc k) next bytes h = go (readPosition next bytes) refl (λ p rest. body-length k (p + 1) rest)
+body-holds zero next bytes h = (refl, omega arith)
+body-holds (suc k) next bytes h = go (readPosition next bytes) refl (λ p rest. body-holds k (p + 1) rest)
   where
     go : (r : Result (ℕ × List ℕ)) → readPosition next bytes ≡ r
-        → ((p : ℕ) (rest : List ℕ) → accepts (readBody k (p + 1) rest) ≡ true → length (positionsOf (readBody k (p + 1) rest)) ≡ k)
-        → length (positionsOf (readBody (suc k) next bytes)) ≡ suc k
+        → ((p : ℕ) (rest : List ℕ) → accepts (readBody k (p + 1) rest) ≡ true → BodyHolds k (p + 1) rest)
+        → BodyHolds (suc k) next bytes
     go (fault n) e ih = absurd (false≢true (sym (ap accepts (body-fault (suc k) next bytes n (omega arith) e)) ∙ h))
     go (ok r) e ih =
         let s = body-suc k next bytes (r .0) (r .1) e in
         let body = readBody k (r .0 + 1) (r .1) in
         let a : accepts body ≡ true = sym (accepts-prepend (r .0) body) ∙ sym (ap accepts s) ∙ h in
-        ap (λ (x : Result (List ℕ × List ℕ)). length (positionsOf x)) s
-        ∙ ap length (positions-prepend (r .0) body a)
-        ∙ ap suc (ih (r .0) (r .1) a)
+        let held = ih (r .0) (r .1) a in
+        let shorter : length (r .1) < length bytes = position-shorter next bytes (r .0) (r .1) e in (
+          ap (λ (x : Result (List ℕ × List ℕ)). length (positionsOf x)) s
+              ∙ ap length (positions-prepend (r .0) body a)
+              ∙ ap suc (held .0),
+          omega (arith, held .1, shorter),
+        )

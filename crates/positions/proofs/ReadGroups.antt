@@ -19,6 +19,9 @@ use Rattle.positions.specs.Decode.{lastGroup, readGroups, readNumber}
 pub fault-ok : {A : Type 0} {n : ℕ} {a : A} → fault n ≡ ok a → ⊥
 fault-ok e = let z : _≡_ {A = ℕ} 0 1 = cc in omega arith
 
+pub fault-same : {A : Type 0} {n m : ℕ} → _≡_ {A = Result A} (fault n) (fault m) → n ≡ m
+fault-same e = cc
+
 pub ok-same : {A : Type 0} {a b : A} → ok a ≡ ok b → a ≡ b
 ok-same e = cc
 
@@ -81,21 +84,30 @@ groups-more (suc k) w v file at h i b =
     rw (add-one at, drop-cons file at 0 i, le-ltb (getD file at 0) 128 b)
     (ap (λ (m : ℕ). readGroups m (w * 128) (v + (getD file at 0 - 128) * w) (drop (suc at) file)) e)
 
--- ---- a number that is read is not above the limit
+-- ---- a number that is read is not above the limit, and takes a byte or more
 
-groups-le : (k w v : ℕ) (bytes : List ℕ) (m : ℕ) (rest : List ℕ) → readGroups k w v bytes ≡ ok (m, rest) → m ≤ limit
+groups-taken : (k w v : ℕ) (bytes : List ℕ) (m : ℕ) (rest : List ℕ) → readGroups k w v bytes ≡ ok (m, rest)
+    → (m ≤ limit) × (length rest < length bytes)
 unfolding readGroups
-groups-le zero w v bytes m rest e = absurd (fault-ok e)
-groups-le (suc k) w v [] m rest e = absurd (fault-ok e)
-groups-le (suc k) w v (b ∷ bs) m rest e =
+groups-taken zero w v bytes m rest e = absurd (fault-ok e)
+groups-taken (suc k) w v [] m rest e = absurd (fault-ok e)
+groups-taken (suc k) w v (b ∷ bs) m rest e =
     elim (decLt b 128) [
-      | yes h ↦ omega (arith, last-taken w b (v + b * w) bs m rest (rw (lt-ltb b 128 h) at e))
-      | no h ↦ groups-le k (w * 128) (v + (b - 128) * w) bs m rest (rw (le-ltb b 128 (omega arith)) at e)
+      | yes h ↦
+          let t = last-taken w b (v + b * w) bs m rest (rw (lt-ltb b 128 h) at e) in
+          (omega (arith, t .1, t .3), omega (arith, ap length (t .2)))
+      | no h ↦
+          let t = groups-taken k (w * 128) (v + (b - 128) * w) bs m rest (rw (le-ltb b 128 (omega arith)) at e) in
+          (t .0, omega (arith, t .1))
     ]
 
 pub number-le : (bytes : List ℕ) (m : ℕ) (rest : List ℕ) → readNumber bytes ≡ ok (m, rest) → m ≤ limit
 unfolding readNumber
-number-le bytes m rest e = groups-le 5 1 0 bytes m rest e
+number-le bytes m rest e = groups-taken 5 1 0 bytes m rest e .0
+
+pub number-shorter : (bytes : List ℕ) (m : ℕ) (rest : List ℕ) → readNumber bytes ≡ ok (m, rest) → length rest < length bytes
+unfolding readNumber
+number-shorter bytes m rest e = groups-taken 5 1 0 bytes m rest e .1
 
 -- ---- the weight of a group: with `left` groups to come it is 128 ^ (5 - left)
 

@@ -1,8 +1,9 @@
--- What the reader reads: bytes and a number of cells to a list or the first fault, front to back.
+-- What the reader reads: bytes to a list or the first fault, front to back, and last whether there are cells for the list.
 use Prim.Native.Nat.{ℕ, zero, suc, _+_, _-_, _*_}
 use mathlib.Core.Bool.{_&&_}
 use mathlib.Core.List.{List, [], _∷_}
 use lib.Dec.{leb, ltb, eqb}
+use lib.ListN.{length}
 use Rattle.positions.specs.Basics.{limit, pick, Result, ok, fault, andThen, isEmpty}
 
 -- The last group b of a number, of weight w, which makes the number n.
@@ -39,6 +40,12 @@ readBody (suc k) next bytes =
 unfoldable pub whole : Result (List ℕ × List ℕ) → Result (List ℕ)
 whole body = andThen body (λ b. pick (isEmpty (b .1)) (ok (b .0)) (fault 13))
 
--- Document 01: "The reader goes front to back and gives the first fault. .. After the count, 14"
+-- The whole file, judged with no word of cells: its list, or its first fault.
+-- Document 01: "The reader goes front to back and gives the first fault"
+unfoldable pub contents : List ℕ → Result (List ℕ)
+contents file = andThen (readNumber file) (λ r. whole (readBody (r .0) 0 (r .1)))
+
+-- The reader's result with so many cells. A good file's count is the length of its list.
+-- Document 02, A6: "Numbers 14 and 10 to 13 can both apply. From now on 14 comes after all of them"
 unfoldable pub decode : List ℕ → ℕ → Result (List ℕ)
-decode file cells = andThen (readNumber file) (λ r. pick (leb (r .0) cells) (whole (readBody (r .0) 0 (r .1))) (fault 14))
+decode file cells = andThen (contents file) (λ l. pick (leb (length l) cells) (ok l) (fault 14))

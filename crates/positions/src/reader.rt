@@ -1,4 +1,6 @@
-// The reader of the position list file: one pass over the bytes judges them, a second one stores the positions.
+// The reader of the position list file. One pass over the bytes judges the whole file, with no regard to the cells, so that a
+// bad file is told its fault however many cells there are. Only for a good one are the cells counted, and a second pass
+// stores the positions. So no byte is read more than twice, and a refusal leaves every cell as it was.
 ghost use mathlib.Core.Path.{_≡_};
 ghost use mathlib.Core.Bool.{true};
 ghost use Prim.Native.Nat.{_≤_};
@@ -33,7 +35,8 @@ fn position(file: &[u8], at: usize, next: u32) -> Reading
     }
 }
 
-// Judges the file after its count, and stores nothing.
+// Judges the file after its count, and stores nothing. Each round takes a byte or more, so the loop ends with the file's bytes
+// whatever the count claims.
 fn judge(file: &[u8], start: usize, count: u32) -> ReadAnswer
     ensures { λ r. ⌜ readGives r ≡ readAnswer (whole (readBody count 0 (drop start (now (file .entry))))) ⌝ }
 {
@@ -95,13 +98,13 @@ pub fn read(file: &[u8], cells: &mut [u32]) -> ReadAnswer
     match first {
         Reading::Refused(why) => ReadAnswer::Refused(why),
         Reading::Number(count, start) => {
-            if cells.len() < count as usize {
-                return ReadAnswer::Refused(ReadRefusal::CellsMissing);
-            }
             let judged = judge(file, start, count);
             match judged {
                 ReadAnswer::Refused(_) => judged,
                 ReadAnswer::Count(_) => {
+                    if cells.len() < count as usize {
+                        return ReadAnswer::Refused(ReadRefusal::CellsMissing);
+                    }
                     store(file, start, count, cells);
                     judged
                 }

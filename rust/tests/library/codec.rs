@@ -46,13 +46,24 @@ fn take(bytes: &mut &[u8]) -> Result<u64, u32> {
     Err(12)
 }
 
-/// The list of a file, or the first fault, 10 to 14.
+/// The count that a file claims.
+pub fn claimed(file: &[u8]) -> Result<u64, u32> {
+    take(&mut &file[..])
+}
+
+/// The list of a file, or its first fault, 10 to 13, or 14 for a good file with fewer cells than its count.
 pub fn decode(file: &[u8], cells: usize) -> Result<Vec<u32>, u32> {
-    let mut bytes = file;
-    let count = take(&mut bytes)?;
-    if count > cells as u64 {
+    let list = contents(file)?;
+    if list.len() > cells {
         return Err(14);
     }
+    Ok(list)
+}
+
+/// The list of a file, or its first fault, 10 to 13.
+pub fn contents(file: &[u8]) -> Result<Vec<u32>, u32> {
+    let mut bytes = file;
+    let count = take(&mut bytes)?;
     let mut list: Vec<u32> = Vec::new();
     for _ in 0..count {
         let distance = take(&mut bytes)?;

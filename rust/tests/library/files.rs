@@ -101,6 +101,7 @@ fn damaged_files() {
     let random = Random::of("damaged_files");
     let mut caller = Caller::new(&random, 1, 64);
     let mut seen = std::collections::BTreeMap::new();
+    let mut few = std::collections::BTreeMap::new();
     for _ in 0..400_000 {
         let Ok(mut file) = codec::encode(&drawn_list(&random)) else {
             continue;
@@ -119,18 +120,22 @@ fn damaged_files() {
             }
         }
         let count = usize::from(file.first().copied().unwrap_or(0) % 64);
-        let len = random.one_of(&[64, 64, 64, count, count.saturating_sub(1), random.below(64)]);
+        let len = random.one_of(&[64, 64, 64, count, count.saturating_sub(1), 0, random.below(64)]);
         if random.once_in(50) {
             caller.cells.redraw(&random);
         }
         let said = caller.check_read(&file, len, random.one_of(&[0, 1, 1, 1, 1, 1, 1, 1, 2, 4]));
         *seen.entry(said).or_insert(0) += 1;
-        assert_eq!(positions::decode(&file).map_err(|r| r.number()), codec::decode(&file, file.len().max(1) - 1));
+        if codec::claimed(&file).is_ok_and(|count| count > len as u64) {
+            *few.entry(said).or_insert(0) += 1;
+        }
+        assert_eq!(positions::decode(&file).map_err(|r| r.number()), codec::contents(&file));
     }
-    println!("damaged_files: {} calls, by number {seen:?}", 2 * caller.calls);
+    println!("damaged_files: {} calls, by number {seen:?}, of these with too few cells {few:?}", 2 * caller.calls);
     assert!(caller.calls > 200_000);
     assert!(seen.keys().copied().eq([0, 10, 11, 12, 13, 14, 101]));
-    assert!(seen.values().all(|&count| count > 1_000));
+    assert!(few.keys().copied().eq([10, 11, 12, 13, 14, 101]));
+    assert!(seen.values().chain(few.values()).all(|&count| count > 1_000));
 }
 
 /// All files of up to 2 bytes, and all of up to 7 over the bytes that decide most.
@@ -175,9 +180,43 @@ fn long_lists() {
 /// A count of 2^30 in front of a short file asks for no memory.
 #[test]
 fn claimed_counts() {
-    assert_eq!(positions::decode(&[0x80, 0x80, 0x80, 0x80, 0x04]).unwrap_err().number(), 14);
+    assert_eq!(positions::decode(&[0x80, 0x80, 0x80, 0x80, 0x04]).unwrap_err().number(), 10);
     assert_eq!(positions::decode(&[0x81, 0x80, 0x80, 0x80, 0x04]).unwrap_err().number(), 12);
     assert_eq!(positions::decode(&[]).unwrap_err().number(), 10);
     assert_eq!(positions::decode(&[0]), Ok(vec![]));
-    assert_eq!(positions::decode(&[1]).unwrap_err().number(), 14);
+    assert_eq!(positions::decode(&[1]).unwrap_err().number(), 10);
+}
+
+/// Each fault that a file can have after its count, with no cells and with one too few.
+#[test]
+fn bad_files_with_few_cells() {
+    let (early, long, large, left, good) = (
+        [2, 5].as_slice(),
+        [2, 5, 0x80, 0].as_slice(),
+        [2, 5, 0x81, 0x80, 0x80, 0x80, 0x04].as_slice(),
+        [2, 5, 5, 0].as_slice(),
+        [2, 5, 5].as_slice(),
+    );
+    let position = [2, 0xff, 0xff, 0xff, 0xff, 0x03, 0].as_slice();
+    for (file, number) in [(early, 10), (long, 11), (large, 12), (position, 12), (left, 13), (good, 14)] {
+        let mut cells = [7; 1];
+        assert_eq!(positions::decode_into(file, &mut []).unwrap_err().number(), number);
+        assert_eq!(positions::decode_into(file, &mut cells).unwrap_err().number(), number);
+        assert_eq!(cells, [7]);
+    }
+    let mut cells = [7; 2];
+    assert_eq!(positions::decode_into(good, &mut cells), Ok(2));
+    assert_eq!(cells, [5, 11]);
+}
+
+/// A reading takes time by the file's bytes and not by its count: a million readings of six bytes that claim 2^30
+/// positions, which a loop over the count could not end.
+#[test]
+fn claims_take_no_time() {
+    let start = std::time::Instant::now();
+    for _ in 0..1_000_000 {
+        let file = std::hint::black_box([0x80, 0x80, 0x80, 0x80, 0x04, 0]);
+        assert_eq!(positions::decode_into(&file, &mut []).unwrap_err().number(), 10);
+    }
+    assert!(start.elapsed().as_secs() < 20);
 }

@@ -35,9 +35,9 @@ static void version(void)
 {
     char text[40];
     about("version");
-    check(MITONGORY_VERSION_NUMBER == 600, "number of the header");
+    check(MITONGORY_VERSION_NUMBER == 700, "number of the header");
     check(mitongory_version() == MITONGORY_VERSION_NUMBER, "number of the library");
-    check(mitongory_version_0_6() == mitongory_version(), "the two functions");
+    check(mitongory_version_0_7() == mitongory_version(), "the two functions");
     snprintf(text, sizeof text, "%d.%d.%d", MITONGORY_VERSION_MAJOR, MITONGORY_VERSION_MINOR, MITONGORY_VERSION_PATCH);
     check(strcmp(text, MITONGORY_VERSION) == 0, "text");
 }

@@ -178,7 +178,7 @@ static void long_values(void)
 
 static void long_lists(void)
 {
-    static const uint8_t file[] = {3, 0, 5, 5}, one_position[] = {1, 5};
+    static const uint8_t file[] = {3, 0, 5, 5}, one_position[] = {1, 5}, claims[] = {0x80, 0x80, 0x80, 0x80, 4, 0};
     uint32_t *cells = huge;
     uint8_t target[4] = {0};
     about("a list or a file with a length of 33 bits");
@@ -189,7 +189,7 @@ static void long_lists(void)
               answer[0] == sizeof file,
           "target");
     check(memcmp(huge, file, sizeof file) == 0 && cells[1] == 0, "what that target holds");
-    check(mitongory_list_read(huge, length, list, 2, answer, 1) == MITONGORY_CELLS_MISSING, "file of three positions");
+    check(mitongory_list_read(huge, length, list, 2, answer, 1) == MITONGORY_BYTES_LEFT_OVER, "file of three positions");
     clear(sizeof file);
     memcpy(huge, one_position, sizeof one_position);
     check(mitongory_list_read(huge, length, list, 2, answer, 1) == MITONGORY_BYTES_LEFT_OVER, "file of one position");
@@ -199,6 +199,8 @@ static void long_lists(void)
           "cells");
     check(cells[0] == 5 && cells[1] == 0, "what those cells hold");
     clear(sizeof *cells);
+    check(mitongory_list_read(claims, sizeof claims, cells, length, answer, 1) == MITONGORY_FILE_ENDS_EARLY && cells[0] == 0,
+          "a file of six bytes that claims 2^30 positions");
 }
 
 /* A key of the second paper's occurrences, and the same as a sheet. */

@@ -1,4 +1,6 @@
 /* The position list file: lists both ways with every too short buffer, lists that do not rise, and damaged files. */
+#include <string.h>
+
 #include <mitongory.h>
 
 #include "bounds.h"
@@ -30,9 +32,18 @@ static void list_read(const char *name, const uint8_t *file, size_t file_len, si
     calling(name, c, result, list_len, list);
 }
 
+/* A bad file gets its fault with any number of cells. */
+static void with_any_cells(const char *name, const uint8_t *file, size_t bytes, uint32_t fault)
+{
+    size_t room;
+    for (room = 0; room < MORE; room++)
+        list_read(name, file, bytes, room, 1, fault, NULL, 0);
+}
+
 /* A list with its file. */
 static void both_ways(const char *name, const uint32_t *list, size_t count, const void *file, size_t bytes)
 {
+    uint8_t longer[MORE];
     size_t room;
     list_size(name, list, count, 1, MITONGORY_OK, bytes);
     list_size(name, list, count, 3, MITONGORY_OK, bytes);
@@ -49,7 +60,10 @@ static void both_ways(const char *name, const uint32_t *list, size_t count, cons
     list_read(name, file, bytes, count + MORE, 2, MITONGORY_OK, list, count);
     list_read(name, file, bytes, count, 0, MITONGORY_ANSWER_CELLS_MISSING, NULL, 0);
     for (room = 0; room < bytes; room++)
-        list_read(name, file, room, count, 1, MITONGORY_FILE_ENDS_EARLY, NULL, 0);
+        with_any_cells(name, file, room, MITONGORY_FILE_ENDS_EARLY);
+    memcpy(longer, file, bytes);
+    longer[bytes] = 0;
+    with_any_cells(name, longer, bytes + 1, MITONGORY_BYTES_LEFT_OVER);
 }
 
 static void not_rising(const char *name, const uint32_t *list, size_t count)
@@ -62,10 +76,9 @@ static void not_rising(const char *name, const uint32_t *list, size_t count)
     list_write(name, list, count, enough, 0, MITONGORY_ANSWER_CELLS_MISSING, NULL, 0);
 }
 
-/* A file that is refused with one cell. */
-static void bad_file(const char *name, const char *file, size_t bytes, uint32_t refusal)
+static void bad_file(const char *name, const char *file, size_t bytes, uint32_t fault)
 {
-    list_read(name, (const uint8_t *)file, bytes, 1, 1, refusal, NULL, 0);
+    with_any_cells(name, (const uint8_t *)file, bytes, fault);
     list_read(name, (const uint8_t *)file, bytes, 1, 0, MITONGORY_ANSWER_CELLS_MISSING, NULL, 0);
 }
 
@@ -100,8 +113,13 @@ static void bad_files(void)
     bad_file("a sixth group", "\xff\xff\xff\xff\xff\x01", 6, MITONGORY_NUMBER_TOO_LARGE);
     bad_file("the largest number of five groups", "\xff\xff\xff\xff\x7f", 5, MITONGORY_NUMBER_TOO_LARGE);
     bad_file("00 00", "\x00\x00", 2, MITONGORY_BYTES_LEFT_OVER);
-    bad_file("two positions and one cell", "\x02\x05\x05", 3, MITONGORY_CELLS_MISSING);
-    bad_file("a count of 2^30", "\x80\x80\x80\x80\x04", 5, MITONGORY_CELLS_MISSING);
+    bad_file("two positions, the second missing", "\x02\x05", 2, MITONGORY_FILE_ENDS_EARLY);
+    bad_file("two positions, the second too long", "\x02\x05\x80\x00", 4, MITONGORY_NUMBER_NOT_SHORTEST);
+    bad_file("two positions, the second a large number", "\x02\x05\x81\x80\x80\x80\x04", 7, MITONGORY_NUMBER_TOO_LARGE);
+    bad_file("two positions, the second 2^30", "\x02\xff\xff\xff\xff\x03\x00", 7, MITONGORY_NUMBER_TOO_LARGE);
+    bad_file("two positions and a byte", "\x02\x05\x05\x00", 4, MITONGORY_BYTES_LEFT_OVER);
+    bad_file("a count of 2^30", "\x80\x80\x80\x80\x04", 5, MITONGORY_FILE_ENDS_EARLY);
+    bad_file("a count of 2^30 and one position", "\x80\x80\x80\x80\x04\x00", 6, MITONGORY_FILE_ENDS_EARLY);
     list_read("01 05 and no cell", (const uint8_t *)"\x01\x05", 2, 0, 1, MITONGORY_CELLS_MISSING, NULL, 0);
 }
 

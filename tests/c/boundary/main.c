@@ -19,6 +19,7 @@ int main(void)
     lists();
     sitting();
     drawn_sittings();
+    drawn_files();
     pointers();
     large();
     header();

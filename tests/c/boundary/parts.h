@@ -8,6 +8,7 @@ void drawn(void);
 void scratches(void);
 void values(void);
 void lists(void);
+void drawn_files(void);
 void sitting(void);
 void drawn_sittings(void);
 void pointers(void);

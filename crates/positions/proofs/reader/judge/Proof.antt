@@ -1,15 +1,16 @@
 -- `positions::reader::judge` meets its contract. The loop's invariant: the answer after the positions passed and the body from the
--- index reached is the answer to the whole body. The measure is how many positions are left.
+-- index reached is the answer to the whole body. The measure is how many bytes are left, not how many positions: so the loop goes
+-- round at most once for each byte after the count, whatever the count claims.
 -- Assumes nothing.
 use Prim.Native.Nat.{ℕ, _+_, _-_, _≤_}
 use mathlib.Core.Path.{_≡_, sym, ap, _∙_}
 use native.Mathlib.Omega.{arith}
 use borrow.Author.Needs.{needs}
-use lib.ListN.{drop}
+use lib.ListN.{length, drop}
 use Rattle.positions.specs.Basics.{limit}
 use Rattle.positions.specs.Decode.{readBody}
 use Rattle.positions.specs.Inner.{readingIn}
-use Rattle.positions.proofs.ReadBody.{position-taken, body-fault, body-step, judged, judged-all, judged-prepend, judged-left, judged-whole}
+use Rattle.positions.proofs.ReadBody.{position-taken, position-shorter, body-fault, body-step, judged, judged-all, judged-prepend, judged-left, judged-whole}
 use Rattle.positions.proofs.reader.judge.Statement.{statement}
 use Rattle.positions.proofs.reader.judge.Tie as tie
 
@@ -20,7 +21,7 @@ Inv-loop file start count at₀ next₀ left₀ at next left =
     × (next ≤ limit)
 
 abbrev μ-loop : tie.MeasureT-loop
-μ-loop file start count at₀ next₀ left₀ at next left = left
+μ-loop file start count at₀ next₀ left₀ at next left = length (drop at file)
 
 loop-holds : tie.Need-loop-holds Inv-loop μ-loop
 loop-holds c =
@@ -57,7 +58,9 @@ sub-left : tie.Need-sub-left Inv-loop μ-loop
 sub-left c = omega arith
 
 loop-less : tie.Need-loop-less Inv-loop μ-loop
-loop-less c = omega arith
+loop-less c =
+    let file = c .before .before .before .before .before .before .before .args .file .now in
+    position-shorter _ _ _ _ (sym (c .before .before .before .position .ensures) ∙ ap (readingIn file) (c .before .found2 .given .1))
 
 loop-again : tie.Need-loop-again Inv-loop μ-loop
 loop-again c =
