@@ -61,6 +61,7 @@ int main(void)
     uint8_t text[8] = {0}, pattern[8] = {0}, fixed[8] = {0}, file[8] = {0};
     uint32_t list[CELLS] = {0}, mark = 0, all = 0, method, result;
     uint64_t answer[MITONGORY_ANSWER_CELLS] = {0}, n, m, i;
+    size_t bytes;
 
     /* Every method on the first paper, with cells for all occurrences. */
     n = pack(text1, "1", text);
@@ -112,11 +113,16 @@ int main(void)
     for (i = 0; i < answer[0]; i++)
         printf(" %02x", file[i]);
     printf("\n");
+    bytes = (size_t)answer[0];
     memset(list, 0, sizeof list);
-    result = mitongory_list_read(file, (size_t)answer[0], list, CELLS, answer, 1);
+    result = mitongory_list_read(file, bytes, list, CELLS, answer, 1);
     if (result != MITONGORY_OK)
         return refused("read", result);
     printf("read back:");
     print_places(list, answer[0]);
+
+    /* With no cells a bad file gets its fault all the same, and a good one that has positions gets CELLS_MISSING. */
+    refused("the file without its last byte", mitongory_list_read(file, bytes - 1, list, 0, answer, 1));
+    refused("the whole file", mitongory_list_read(file, bytes, list, 0, answer, 1));
     return 0;
 }

@@ -135,7 +135,7 @@ enum mitongory_result {
     MITONGORY_NUMBER_NOT_SHORTEST = 11,  /* a number of the file is not in the fewest groups */
     MITONGORY_NUMBER_TOO_LARGE = 12,     /* a number above 2^30, or a position of 2^30 or more */
     MITONGORY_BYTES_LEFT_OVER = 13,      /* bytes are left over after the list */
-    MITONGORY_CELLS_MISSING = 14,        /* fewer cells than the file's count */
+    MITONGORY_CELLS_MISSING = 14,        /* fewer cells than the file's count, and the file is good */
     MITONGORY_TOO_MANY_SHEETS = 15,      /* more than MITONGORY_SHEETS sheets */
     MITONGORY_COUNTS_DIFFER = 16,        /* the counts of the sheets do not add up to sheets_len */
     MITONGORY_FIXED_BYTES_MISSING = 17,  /* fewer bytes of `fixed` than m bits take */
@@ -296,7 +296,9 @@ uint32_t mitongory_list_write(const uint32_t *list, size_t list_len, uint8_t *ta
  * count. Only what mitongory_list_write makes is accepted. The count and each position take a byte or more, so file_len - 1
  * cells are enough for every good file, and no cells for a file of one byte or none.
  *
- * Returns 0, or 101 first, or the first fault of the file from front to back, 10 to 14.
+ * Returns 0, or 101 first, or the first fault of the file from front to back, 10 to 13, or last 14 for a good file with a
+ * count above cells_len. The fault of a bad file does not depend on the cells; so with no cells a file is judged by itself.
+ * The time goes by the bytes of the file, whatever its count claims.
  */
 uint32_t mitongory_list_read(const uint8_t *file, size_t file_len, uint32_t *cells, size_t cells_len,
                              uint64_t *answer, size_t answer_len);

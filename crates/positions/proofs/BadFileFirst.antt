@@ -1,12 +1,12 @@
 -- 14 is the reader's last refusal (document 02, A6): what follows for every file, as `specs/BadFileFirst.antt` says it.
-use Prim.Native.Nat.{ℕ, _+_, _≤_, _<_}
+use Prim.Native.Nat.{ℕ, _≤_, _<_}
 use mathlib.Core.Path.{_≡_, refl, sym, _∙_}
 use mathlib.Core.List.{List}
 use native.Mathlib.Omega.{arith}
 use native.Mathlib.Decide.{decLe}
 use lib.ListN.{length}
-use Rattle.positions.specs.Basics.{limit, Result, ok, fault}
-use Rattle.positions.specs.Decode.{readNumber, contents, decode}
+use Rattle.positions.specs.Basics.{Result, ok, fault}
+use Rattle.positions.specs.Decode.{contents, decode}
 use Rattle.positions.specs.BadFileFirst.{GoodWithFewCells, BadFileFirst}
 use Rattle.positions.proofs.ReadGroups.{fault-ok, fault-same, ok-pair}
 use Rattle.positions.proofs.Decoded.{Counted, counted, contents-number, decode-bad, decode-few, decode-good}

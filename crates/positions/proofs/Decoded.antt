@@ -7,12 +7,12 @@ use native.Mathlib.Omega.{arith}
 use native.Mathlib.Decide.{decLe}
 use borrow.Author.Tests.{le-leb, lt-leb}
 use lib.Dec.{leb, ltb, eqb}
-use lib.ListN.{length}
-use lib.Seq.{sets}
+use lib.ListN.{length, drop, drop-of-length-le}
+use lib.Seq.{sets, drop-cons}
 use Rattle.positions.specs.Basics.{limit, pick, Result, ok, fault, andThen, isEmpty}
 use Rattle.positions.specs.Decode.{lastGroup, readGroups, readNumber, readPosition, readBody, whole, contents, decode}
-use Rattle.positions.specs.Promise.{count, refused, readAnswer, readCells, readRefusal, Reads}
-use Rattle.positions.specs.Inner.{accepts, positionsOf}
+use Rattle.positions.specs.Promise.{count, readAnswer, readCells, readRefusal, Reads}
+use Rattle.positions.specs.Inner.{restOf, accepts, positionsOf}
 use Rattle.positions.specs.declared.ReadRefusal.{ReadRefusal}
 use Rattle.positions.specs.declared.ReadAnswer.the-variants.{Count, Refused}
 use Rattle.positions.proofs.Stores.{sets-front}
@@ -54,18 +54,6 @@ decode-taken file cells l e = go (contents file) refl
           | no h ↦ absurd (fault-ok (sym (decode-few file cells m c (omega arith)) ∙ e))
         ]
 
--- ---- from an answer back to what was decoded
-
-pub refused-fault : (d : Result (List ℕ)) (n : ℕ) → refused n ≡ readAnswer d → d ≡ fault n
-unfolding readAnswer
-refused-fault (fault m) n e = cc
-refused-fault (ok l) n e = let z : _≡_ {A = ℕ} 0 1 = cc in absurd (omega arith)
-
-counted-ok : (d : Result (List ℕ)) (n : ℕ) → count n ≡ readAnswer d → (l : List ℕ) × (d ≡ ok l)
-unfolding readAnswer
-counted-ok (fault m) n e = let z : _≡_ {A = ℕ} 0 1 = cc in absurd (omega arith)
-counted-ok (ok l) n e = (l, refl)
-
 -- ---- a good file
 
 -- a body that is the whole file: its positions are the list
@@ -91,12 +79,37 @@ body-list k rest l e =
     let held = body-holds k 0 rest (t .0) in
     record { accepted = t .0; list-is = t .1; length-is = sym (ap length (t .1)) ∙ held .0; shorter = held .1 }
 
--- the same of a body that was judged good: the list that the file holds
-pub judged-list : (file : List ℕ) (k : ℕ) (rest : List ℕ) (n : ℕ) → readNumber file ≡ ok (k, rest) → count n ≡ readAnswer (whole (readBody k 0 rest))
-    → (l : List ℕ) × (contents file ≡ ok l) × Holds k rest l
-judged-list file k rest n e a =
-    let t = counted-ok (whole (readBody k 0 rest)) n a in
-    (t .0, contents-body file k rest e ∙ t .1, body-list k rest (t .0) (t .1))
+-- ---- what the first pass finds: a fault, bytes left over, or a good file
+
+pub judged-fault : (file : List ℕ) (k : ℕ) (rest : List ℕ) (n : ℕ) → readNumber file ≡ ok (k, rest) → fault n ≡ restOf (readBody k 0 rest)
+    → contents file ≡ fault n
+unfolding whole
+judged-fault file k rest n c e = contents-body file k rest c ∙ go (readBody k 0 rest) e
+  where
+    go : (r : Result (List ℕ × List ℕ)) → fault n ≡ restOf r → whole r ≡ fault n
+    go (ok b) q = absurd (fault-ok q)
+    go (fault m) q = ap fault (sym (fault-same q))
+
+-- the body ends where the bytes from an index on begin
+judged-end : (file : List ℕ) (k : ℕ) (rest left : List ℕ) → readNumber file ≡ ok (k, rest) → ok left ≡ restOf (readBody k 0 rest)
+    → contents file ≡ pick (isEmpty left) (ok (positionsOf (readBody k 0 rest))) (fault 13)
+unfolding whole
+judged-end file k rest left c e = contents-body file k rest c ∙ go (readBody k 0 rest) e
+  where
+    go : (r : Result (List ℕ × List ℕ)) → ok left ≡ restOf r → whole r ≡ pick (isEmpty left) (ok (positionsOf r)) (fault 13)
+    go (fault m) q = absurd (fault-ok (sym q))
+    go (ok b) q = ap (λ (l : List ℕ). pick (isEmpty l) (ok (b .0)) (fault 13)) (sym (ok-same q))
+
+pub judged-left : (file : List ℕ) (k : ℕ) (rest : List ℕ) (after : ℕ) → readNumber file ≡ ok (k, rest) → ok (drop after file) ≡ restOf (readBody k 0 rest)
+    → after < length file → contents file ≡ fault 13
+judged-left file k rest after c e h = rw (drop-cons file after 0 h) at (judged-end file k rest (drop after file) c e)
+
+pub judged-good : (file : List ℕ) (k : ℕ) (rest : List ℕ) (after : ℕ) → readNumber file ≡ ok (k, rest) → ok (drop after file) ≡ restOf (readBody k 0 rest)
+    → length file ≤ after → (l : List ℕ) × (contents file ≡ ok l) × Holds k rest l
+judged-good file k rest after c e h =
+    let l = positionsOf (readBody k 0 rest) in
+    let good : contents file ≡ ok l = rw (drop-of-length-le file h) at (judged-end file k rest (drop after file) c e) in
+    (l, good, body-list k rest l (sym (contents-body file k rest c) ∙ good))
 
 -- a good file's count is the length of its list, which is below the number of bytes and not above the limit
 pub record Counted (file l : List ℕ) : Type 0 where
@@ -200,7 +213,7 @@ pub reads-fault : (file cells : List ℕ) (why : ReadRefusal) → decode file (l
 unfolding readAnswer readCells
 reads-fault file cells why e = record { answer = rw e; cells = rw e }
 
-pub reads-list : (file cells : List ℕ) (n : ℕ) (l : List ℕ) → decode file (length cells) ≡ ok l → count n ≡ readAnswer (decode file (length cells))
-    → length l ≤ length cells → Reads file cells (Count n) (sets cells 0 l)
+pub reads-list : (file cells : List ℕ) (n : ℕ) (l : List ℕ) → decode file (length cells) ≡ ok l → length l ≡ n → length l ≤ length cells
+    → Reads file cells (Count n) (sets cells 0 l)
 unfolding readAnswer readCells
-reads-list file cells n l e k h = record { answer = k; cells = rw e (sets-front l cells h) }
+reads-list file cells n l e k h = record { answer = rw e (ap count (sym k)); cells = rw e (sets-front l cells h) }

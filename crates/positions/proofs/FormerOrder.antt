@@ -1,15 +1,14 @@
 -- What document 02, A6 changed: the reader's answers against those of the former order, in which 14 came right after the count. That
 -- order is defined here for this theorem alone.
 use Prim.Native.Nat.{ℕ, _≤_, _<_}
-use mathlib.Core.Path.{_≡_, refl, sym, ap, _∙_}
+use mathlib.Core.Path.{_≡_, refl, sym, _∙_}
 use mathlib.Core.List.{List}
 use native.Mathlib.Omega.{arith}
 use native.Mathlib.Decide.{decLe}
 use borrow.Author.Tests.{le-leb, lt-leb}
 use lib.Dec.{leb}
-use lib.ListN.{length}
 use Rattle.positions.specs.Basics.{pick, Result, ok, fault, andThen}
-use Rattle.positions.specs.Decode.{readNumber, readBody, whole, contents, decode}
+use Rattle.positions.specs.Decode.{readNumber, readBody, whole, decode}
 use Rattle.positions.proofs.ReadGroups.{fault-same}
 use Rattle.positions.proofs.Decoded.{contents-fault, contents-body, decode-bad, decode-few, decode-good, body-list, contents-number}
 
@@ -32,10 +31,14 @@ pub record Changed (file : List ℕ) (cells n : ℕ) : Type 0 where
   pub numbered : (10 ≤ n) × (n ≤ 13)
   pub differ : decode file cells ≡ decodeBefore file cells → ⊥
 
--- the answers differ for those files,
-pub changed : (file : List ℕ) (cells n : ℕ) → BadWithFewCells file cells n → Changed file cells n
+-- the two orders' answers differ exactly for those files
+pub record Differences (file : List ℕ) (cells : ℕ) : Type 0 where
+  pub changed : (n : ℕ) → BadWithFewCells file cells n → Changed file cells n
+  pub only : (decode file cells ≡ decodeBefore file cells → ⊥) → (n : ℕ) × BadWithFewCells file cells n
+
+answers-changed : (file : List ℕ) (cells n : ℕ) → BadWithFewCells file cells n → Changed file cells n
 unfolding decodeBefore
-changed file cells n b =
+answers-changed file cells n b =
     let c = contents-body file (b .count) (b .rest) (b .counted) ∙ b .bad in
     let was : decodeBefore file cells ≡ fault 14 = rw (b .counted, lt-leb (b .count) cells (b .few)) in
     let is = decode-bad file cells n c in
@@ -47,10 +50,9 @@ changed file cells n b =
       differ = λ e. omega (arith, numbered .1, fault-same (sym is ∙ e ∙ was));
     }
 
--- and for no others
-pub changed-only : (file : List ℕ) (cells : ℕ) → (decode file cells ≡ decodeBefore file cells → ⊥) → (n : ℕ) × BadWithFewCells file cells n
+no-others : (file : List ℕ) (cells : ℕ) → (decode file cells ≡ decodeBefore file cells → ⊥) → (n : ℕ) × BadWithFewCells file cells n
 unfolding decodeBefore
-changed-only file cells differ = by-count (readNumber file) refl
+no-others file cells differ = by-count (readNumber file) refl
   where
     by-body : (k : ℕ) (rest : List ℕ) (r : Result (List ℕ)) → readNumber file ≡ ok (k, rest) → cells < k → whole (readBody k 0 rest) ≡ r
         → (n : ℕ) × BadWithFewCells file cells n
@@ -76,3 +78,6 @@ changed-only file cells differ = by-count (readNumber file) refl
           | yes h ↦ absurd (differ (enough (r .0) (r .1) (whole (readBody (r .0) 0 (r .1))) c h refl ∙ rw (c, le-leb (r .0) cells h) refl))
           | no h ↦ by-body (r .0) (r .1) (whole (readBody (r .0) 0 (r .1))) c (omega arith) refl
         ]
+
+pub differences : (file : List ℕ) (cells : ℕ) → Differences file cells
+differences file cells = record { changed = answers-changed file cells; only = no-others file cells }

@@ -2,16 +2,14 @@
 use Prim.Native.Nat.{ℕ, zero, suc, _+_, _-_, _≤_, _<_}
 use mathlib.Core.Path.{_≡_, refl, sym, ap, _∙_}
 use mathlib.Core.Bool.{true, false≢true}
-use mathlib.Core.List.{List, [], _∷_}
+use mathlib.Core.List.{List, _∷_}
 use native.Mathlib.Omega.{arith}
 use native.Mathlib.Decide.{decLt}
 use borrow.Author.Tests.{lt-ltb, le-ltb}
-use lib.ListN.{length, drop, drop-of-length-le}
-use lib.Seq.{drop-cons}
-use Rattle.positions.specs.Basics.{limit, pick, Result, ok, fault, andThen, isEmpty}
-use Rattle.positions.specs.Decode.{readNumber, readPosition, readBody, whole}
-use Rattle.positions.specs.Promise.{Answer, count, refused, readAnswer}
-use Rattle.positions.specs.Inner.{accepts, positionsOf}
+use lib.ListN.{length}
+use Rattle.positions.specs.Basics.{limit, Result, ok, fault, andThen}
+use Rattle.positions.specs.Decode.{readNumber, readPosition, readBody}
+use Rattle.positions.specs.Inner.{restOf, accepts, positionsOf}
 use Rattle.positions.proofs.ReadGroups.{fault-ok, ok-pair, number-shorter}
 
 -- ---- one position
@@ -75,36 +73,11 @@ body-step (suc k) next bytes p rest h e =
     let s : k ≡ suc k - 1 = omega arith in
     body-suc k next bytes p rest e ∙ ap (λ (j : ℕ). prepend p (readBody j (p + 1) rest)) s
 
--- ---- what the first pass finds out: the answer after k positions and this body
+-- ---- what the first pass finds: where the body ends
 
-unfoldable pub judged : ℕ → Result (List ℕ × List ℕ) → Answer
-judged k (ok b) = pick (isEmpty (b .1)) (count (k + length (b .0))) (refused 13)
-judged k (fault n) = refused n
-
-pub judged-all : (r : Result (List ℕ × List ℕ)) → judged 0 r ≡ readAnswer (whole r)
-unfolding judged whole readAnswer
-judged-all (fault n) = refl
-judged-all (ok b) = go (b .1)
-  where
-    go : (rest : List ℕ) → pick (isEmpty rest) (count (0 + length (b .0))) (refused 13) ≡ readAnswer (pick (isEmpty rest) (ok (b .0)) (fault 13))
-    go [] = ap count (omega arith)
-    go (x ∷ xs) = refl
-
-pub judged-prepend : (k p : ℕ) (r : Result (List ℕ × List ℕ)) → judged k (prepend p r) ≡ judged (k + 1) r
-unfolding judged
-judged-prepend k p (fault n) = refl
-judged-prepend k p (ok b) =
-    let e : k + suc (length (b .0)) ≡ k + 1 + length (b .0) = omega arith in
-    ap (λ (n : ℕ). pick (isEmpty (b .1)) (count n) (refused 13)) e
-
--- after the last position: bytes left over, or none
-pub judged-left : (k next : ℕ) (file : List ℕ) (at : ℕ) → at < length file → judged k (readBody 0 next (drop at file)) ≡ refused 13
-unfolding judged readBody
-judged-left k next file at h = rw (drop-cons file at 0 h)
-
-pub judged-whole : (k next : ℕ) (file : List ℕ) (at : ℕ) → length file ≤ at → judged k (readBody 0 next (drop at file)) ≡ count k
-unfolding judged readBody
-judged-whole k next file at h = rw (drop-of-length-le file h) (ap count (omega arith))
+pub rest-prepend : (p : ℕ) (r : Result (List ℕ × List ℕ)) → restOf (prepend p r) ≡ restOf r
+rest-prepend p (ok b) = refl
+rest-prepend p (fault n) = refl
 
 -- ---- what the second pass stores
 

@@ -13,7 +13,7 @@ use Rattle.positions.specs.Encode.{encodeNumber, encodeFrom, encode}
 use Rattle.positions.specs.Decode.{readNumber, readBody, whole, contents, decode}
 use Rattle.positions.proofs.ReadGroups.{fault-ok, ok-same}
 use Rattle.positions.proofs.Rising.{list-bytes}
-use Rattle.positions.proofs.Decoded.{decode-good, decode-taken, Counted, counted}
+use Rattle.positions.proofs.Decoded.{decode-good, decode-taken, counted}
 use Rattle.positions.proofs.ReadBack.{file-back}
 use Rattle.positions.proofs.Accepted.{number-encoded, body-encoded}
 

@@ -7,9 +7,9 @@ ghost use Prim.Native.Nat.{_≤_};
 ghost use lib.ListN.{length, drop};
 ghost use lib.Seq.{sets};
 ghost use Rattle.positions.specs.Basics.{limit};
-ghost use Rattle.positions.specs.Decode.{readPosition, readBody, whole};
-ghost use Rattle.positions.specs.Promise.{readGives, readAnswer, Reads};
-ghost use Rattle.positions.specs.Inner.{readingIn, accepts, positionsOf};
+ghost use Rattle.positions.specs.Decode.{readPosition, readBody};
+ghost use Rattle.positions.specs.Promise.{Reads};
+ghost use Rattle.positions.specs.Inner.{readingIn, endIn, restOf, accepts, positionsOf};
 use crate::LIMIT;
 use crate::ReadAnswer;
 use crate::ReadRefusal;
@@ -35,10 +35,16 @@ fn position(file: &[u8], at: usize, next: u32) -> Reading
     }
 }
 
-// Judges the file after its count, and stores nothing. Each round takes a byte or more, so the loop ends with the file's bytes
-// whatever the count claims.
-fn judge(file: &[u8], start: usize, count: u32) -> ReadAnswer
-    ensures { λ r. ⌜ readGives r ≡ readAnswer (whole (readBody count 0 (drop start (now (file .entry))))) ⌝ }
+// Where the positions of a file end: the index after the last one, or the first fault before it.
+enum End {
+    At(usize),
+    Refused(ReadRefusal),
+}
+
+// Judges so many positions from `start` on, and stores nothing. Each round takes a byte or more, so the loop ends with the
+// file's bytes whatever the count claims.
+fn judge(file: &[u8], start: usize, count: usize) -> End
+    ensures { λ r. ⌜ endIn (now (file .entry)) r ≡ restOf (readBody count 0 (drop start (now (file .entry)))) ⌝ }
 {
     let mut at = start;
     let mut next: u32 = 0;
@@ -47,7 +53,7 @@ fn judge(file: &[u8], start: usize, count: u32) -> ReadAnswer
         let found = position(file, at, next);
         match found {
             Reading::Refused(why) => {
-                return ReadAnswer::Refused(why);
+                return End::Refused(why);
             }
             Reading::Number(p, after) => {
                 next = p + 1;
@@ -56,14 +62,11 @@ fn judge(file: &[u8], start: usize, count: u32) -> ReadAnswer
         }
         left -= 1;
     }
-    if at < file.len() {
-        return ReadAnswer::Refused(ReadRefusal::BytesLeftOver);
-    }
-    ReadAnswer::Count(count as usize)
+    End::At(at)
 }
 
 // Stores the positions of a file that was judged good.
-fn store(file: &[u8], start: usize, count: u32, cells: &mut [u32])
+fn store(file: &[u8], start: usize, count: usize, cells: &mut [u32])
     requires { ⌜ accepts (readBody count 0 (drop start (now file))) ≡ true ⌝ }
     requires { ⌜ count ≤ length (now cells) ⌝ }
     ensures { λ _. ⌜ now (cells .exit) ≡ sets (now (cells .entry)) 0 (positionsOf (readBody count 0 (drop start (now (file .entry))))) ⌝ }
@@ -98,15 +101,19 @@ pub fn read(file: &[u8], cells: &mut [u32]) -> ReadAnswer
     match first {
         Reading::Refused(why) => ReadAnswer::Refused(why),
         Reading::Number(count, start) => {
-            let judged = judge(file, start, count);
-            match judged {
-                ReadAnswer::Refused(_) => judged,
-                ReadAnswer::Count(_) => {
-                    if cells.len() < count as usize {
+            let needed = count as usize;
+            let end = judge(file, start, needed);
+            match end {
+                End::Refused(why) => ReadAnswer::Refused(why),
+                End::At(after) => {
+                    if after < file.len() {
+                        return ReadAnswer::Refused(ReadRefusal::BytesLeftOver);
+                    }
+                    if cells.len() < needed {
                         return ReadAnswer::Refused(ReadRefusal::CellsMissing);
                     }
-                    store(file, start, count, cells);
-                    judged
+                    store(file, start, needed, cells);
+                    ReadAnswer::Count(needed)
                 }
             }
         }

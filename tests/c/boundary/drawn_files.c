@@ -11,7 +11,7 @@
 #include "draw.h"
 #include "parts.h"
 
-enum { ROUNDS = 1500, MOST_POSITIONS = 6, MOST_CELLS = 8, GROUPS = 5, MOST_BYTES = (MOST_POSITIONS + 3) * GROUPS };
+enum { ROUNDS = 1000, MOST_POSITIONS = 6, MOST_CELLS = 8, GROUPS = 5, MOST_BYTES = (MOST_POSITIONS + 3) * GROUPS };
 
 /* A number at the front of some bytes: its fault or 0, and the bytes that it takes. */
 struct number {
@@ -88,14 +88,15 @@ static size_t draw_file(uint8_t *file)
     return at;
 }
 
-/* A byte is replaced, a byte is left over, or the end is cut off. */
+/* A byte is replaced, the last number gets a group too many, a byte is left over, or the end is cut off. */
 static size_t damage(uint8_t *file, size_t len)
 {
     static const uint8_t bytes[] = {0, 1, 4, 0x7f, 0x80, 0xff};
-    switch (draw(4)) {
+    switch (draw(5)) {
     case 0: file[draw(len)] = bytes[draw(sizeof bytes)]; return len;
-    case 1: file[len] = (uint8_t)draw(256); return len + 1;
-    case 2: return (size_t)draw(len);
+    case 1: file[len - 1] |= 128; file[len] = 0; return len + 1;
+    case 2: file[len] = (uint8_t)draw(256); return len + 1;
+    case 3: return (size_t)draw(len);
     default: return len;
     }
 }
