@@ -1,6 +1,6 @@
 // Times the library's searches against those of an earlier archive, on the same data in the same run, with all bits of the
 // pattern fixed. bench/run links that archive with its calls under other names; where there is none, there is nothing to time.
-// For the list file see files.c.
+// The calls must have today's parameters, as they have since version 0.6. For the list file see files.c.
 #include "bench.h"
 #include "draw.h"
 #include "library.h"

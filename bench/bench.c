@@ -46,7 +46,8 @@ int main(int count, char **args) {
         known = 1, time_tables();
     }
     if (all || !strcmp(mode, "files")) {
-        printf("\n## The position list file\n\nNanoseconds for each position. With no cells the file is judged, and the answer is refusal 14.\n");
+        printf("\n## The position list file\n\nNanoseconds for each position. With no cells the file is judged, and the answer is\n"
+               "refusal 14.\n");
         known = 1, time_files();
     }
     if (all || !strcmp(mode, "sitting")) {

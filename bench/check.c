@@ -242,7 +242,7 @@ static long check_files(long rounds) {
         said[0] = mitongory_list_write(list, k, file[0], len, count, 1);
         said[1] = c_list_write(list, k, file[1], len, count + 1);
         int same = said[0] == said[1] && count[0] == count[1] && !memcmp(file[0], file[1], BYTES);
-        size_t bytes = said[0] ? below(BYTES) : count[0];
+        size_t bytes = said[0] ? below(BYTES - 2) : count[0];
         for (size_t cut = below(4); cut; cut--) file[0][below(bytes + 1)] = below(2) ? (uint8_t)draw() : "\0\1\4\x80\xff"[below(5)];
         if (below(4) == 0) bytes = below(bytes + 3);
         size_t room = below(2) ? MOST : below(MOST);

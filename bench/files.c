@@ -34,6 +34,7 @@ struct job {
     uint8_t *file;
     uint32_t *cells;
     uint64_t done[CALLS * SIDES];
+    uint32_t said[CALLS * SIDES];
 };
 
 static struct job drawn(int k) {
@@ -53,39 +54,42 @@ static void give_back(struct job *job) {
 static void run(void *of, int contender) {
     struct job *job = of;
     uint64_t *done = job->done + contender;
+    uint32_t *said = job->said + contender;
     size_t cells = contender / SIDES == READ ? job->count : 0;
     switch (contender) {
-    case LIBRARY: mitongory_list_write(job->list, job->count, job->file, job->len, done, 1); break;
-    case YARDSTICK: c_list_write(job->list, job->count, job->file, job->len, done); break;
+    case LIBRARY: *said = mitongory_list_write(job->list, job->count, job->file, job->len, done, 1); break;
+    case YARDSTICK: *said = c_list_write(job->list, job->count, job->file, job->len, done); break;
     case NAIVE: *done = naive_write(job->list, job->count, job->file, job->len); break;
     case READ * SIDES + NAIVE: *done = naive_read(job->file, job->bytes, job->cells, cells); break;
     case READ * SIDES + LIBRARY:
-    case JUDGE * SIDES + LIBRARY: mitongory_list_read(job->file, job->bytes, job->cells, cells, done, 1); break;
+    case JUDGE * SIDES + LIBRARY: *said = mitongory_list_read(job->file, job->bytes, job->cells, cells, done, 1); break;
     case READ * SIDES + YARDSTICK:
-    case JUDGE * SIDES + YARDSTICK: c_list_read(job->file, job->bytes, job->cells, cells, done); break;
+    case JUDGE * SIDES + YARDSTICK: *said = c_list_read(job->file, job->bytes, job->cells, cells, done); break;
     default: break; // the naive codec does not judge a file by itself
     }
 }
 
-// Every contender once, on cleared buffers: the file and the list are the same each time, and without cells nothing is told.
+// Every contender once, on cleared buffers: the file and the list are the same each time. Without cells the answer is 14 and
+// nothing is stored.
 static void compare(struct job *job) {
-    uint8_t *first = malloc(job->len);
+    size_t size = job->count * sizeof *job->cells;
+    uint8_t *first = malloc(job->len), *cleared = calloc(1, size);
     for (int i = 0; i < CALLS * SIDES; i++) {
-        int call = i / SIDES;
+        int call = i / SIDES, judges = call == JUDGE && i % SIDES != NAIVE;
         if (call == WRITE) memset(job->file, 0, job->len);
-        memset(job->cells, 0, job->count * sizeof *job->cells);
-        job->done[i] = 0;
+        memset(job->cells, 0, size);
+        job->done[i] = job->said[i] = 0;
         run(job, i);
         if (i == 0) memcpy(first, job->file, job->len);
-        int same = call == WRITE  ? job->done[i] == job->bytes && !memcmp(first, job->file, job->len)
-                   : call == READ ? job->done[i] == job->count && !memcmp(job->list, job->cells, job->count * sizeof *job->cells)
-                                  : job->done[i] == 0 && job->cells[job->count - 1] == 0;
+        int same = job->said[i] == (judges ? MITONGORY_CELLS_MISSING : MITONGORY_OK) && !memcmp(first, job->file, job->len) &&
+                   job->done[i] == (call == WRITE ? job->bytes : call == READ ? job->count : 0) &&
+                   !memcmp(call == READ ? (const void *)job->list : cleared, job->cells, size);
         if (!same) {
             printf("list file: contender %d differs\n", i);
             exit(1);
         }
     }
-    free(first);
+    free(first), free(cleared);
 }
 
 void time_files(void) {
@@ -120,10 +124,21 @@ enum { BEFORE, NOW, PAIR };
 static void run_pair(void *of, int contender) {
     struct job *job = of;
     uint64_t *done = job->done + contender;
+    uint32_t *said = job->said + contender;
     if (contender / PAIR == WRITE)
-        (contender % PAIR == NOW ? mitongory_list_write : before_list_write)(job->list, job->count, job->file, job->len, done, 1);
+        *said = (contender % PAIR == NOW ? mitongory_list_write : before_list_write)(job->list, job->count, job->file, job->len,
+                                                                                     done, 1);
     else
-        (contender % PAIR == NOW ? mitongory_list_read : before_list_read)(job->file, job->bytes, job->cells, job->count, done, 1);
+        *said = (contender % PAIR == NOW ? mitongory_list_read : before_list_read)(job->file, job->bytes, job->cells, job->count,
+                                                                                   done, 1);
+}
+
+// The contender did what the call asks: it told the list's count or the file's bytes, and the list is in the cells.
+static int good(struct job *job, int contender) {
+    uint64_t done = contender / PAIR == WRITE ? job->bytes : job->count;
+    run_pair(job, contender);
+    return job->said[contender] == MITONGORY_OK && job->done[contender] == done &&
+           (contender / PAIR == WRITE || !memcmp(job->list, job->cells, job->count * sizeof *job->cells));
 }
 
 // Writing and reading good files.
@@ -136,8 +151,8 @@ void time_files_before(void) {
         least((struct race){run_pair, 0, &job, 2 * PAIR}, 4, job.count < 100000 ? 400 : 60, best);
         for (int c = WRITE; c <= READ; c++) {
             double *pair = best + c * PAIR;
-            if (job.done[c * PAIR + BEFORE] != job.done[c * PAIR + NOW]) {
-                printf("%s, %s: the answers differ\n", lists[k].name, calls[c]);
+            if (!good(&job, c * PAIR + BEFORE) || !good(&job, c * PAIR + NOW)) {
+                printf("%s, %s: a wrong answer\n", lists[k].name, calls[c]);
                 exit(1);
             }
             printf("| %s | %s | %.3g | %.3g | %.2f |\n", lists[k].name, calls[c], pair[BEFORE] / job.count, pair[NOW] / job.count,

@@ -297,8 +297,8 @@ uint32_t mitongory_list_write(const uint32_t *list, size_t list_len, uint8_t *ta
  * cells are enough for every good file, and no cells for a file of one byte or none.
  *
  * Returns 0, or 101 first, or the first fault of the file from front to back, 10 to 13, or last 14 for a good file with a
- * count above cells_len. The fault of a bad file does not depend on the cells; so with no cells a file is judged by itself.
- * The time goes by the bytes of the file, whatever its count claims.
+ * count above cells_len. The fault of a bad file does not depend on the cells. So a call with no cells tells whether a file
+ * is good: 14, or 0 for that of the empty list. The time grows with the file's bytes and not with its count.
  */
 uint32_t mitongory_list_read(const uint8_t *file, size_t file_len, uint32_t *cells, size_t cells_len,
                              uint64_t *answer, size_t answer_len);

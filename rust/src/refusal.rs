@@ -5,7 +5,8 @@ use std::fmt;
 /// Why a call was refused. A refused call changes nothing: no cell, no byte, no mark.
 ///
 /// A search is refused with the first of 1, 2, 3, 4, 17, 5, 6 and 7 that applies, a file with its first fault from front
-/// to back, a sitting with the first of 15, 16, 8 and 9. Where none applies, the call is accepted.
+/// to back, 10 to 13, or a good one with 14 where there are fewer cells than its count, a sitting with the first of 15,
+/// 16, 8 and 9. Where none applies, the call is accepted.
 ///
 /// ```
 /// use mitongory::{Pattern, Refusal};
@@ -46,7 +47,7 @@ pub enum Refusal {
     NumberTooLarge = 12,
     /// Bytes are left over after the list.
     BytesLeftOver = 13,
-    /// There are fewer cells than the file's count.
+    /// There are fewer cells than the file's count, and the file is good.
     CellsMissing = 14,
     /// There are more than 256 sheets.
     TooManySheets = 15,

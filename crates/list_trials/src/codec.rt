@@ -1,4 +1,5 @@
-// A naive writer and reader of the position list file, from the words of documents 01 and 02. Faults are their numbers above REFUSED.
+// A naive writer and reader of the position list file, from the words of documents 01 and 02. Faults are their numbers above
+// REFUSED.
 use draws::cells::get32;
 use draws::number::byte;
 use draws::number::minus;
@@ -94,7 +95,8 @@ fn get_number(file: &[u8], start: usize, base: usize, top: usize) -> Number {
     }
 }
 
-// The count of a file's positions, or its first fault, or 14 for a good file; and whether the cells hold the positions.
+// The count of a file's positions, or its first fault, or 14 for a good file with fewer cells than its count; and whether the
+// cells hold the positions.
 pub(crate) fn decode(file: &[u8], room: usize, cells: &[u32]) -> Judged {
     let first = get_number(file, 0, 0, LIMIT);
     if 0 < first.fault {

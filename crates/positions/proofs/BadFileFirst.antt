@@ -63,6 +63,7 @@ whatever-held file cells h = go (contents file) refl
 pub bad-file-first : (file : List ℕ) → BadFileFirst file
 bad-file-first file =
     record {
+      numbered = contents-number file;
       bad = λ n e cells. decode-bad file cells n e;
       own = own-fault file;
       alike = λ n cells cells′ h e. decode-bad file cells′ n (own-fault file n cells h e);

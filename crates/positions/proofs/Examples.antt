@@ -61,9 +61,9 @@ edges =
     }
 
 -- Document 02, A6: files with fewer cells than the count "that also end early (now 10), hold a long number (11), a large number or
--- position (12) or leftover bytes (13)", with no cell and with one. A reading that is cut short at the cells gives other faults: it
--- sees bytes left over in the file with the long number, and in the sound one.
-pub record BadFilesFirst : Type 0 where
+-- position (12) or leftover bytes (13)", with no cell or with one, and a sound file. A reading that is cut short at the cells gives 13
+-- for all of them with no cell.
+pub record FewCells : Type 0 where
   pub early : decode (0x02 ∷ 0x05 ∷ []) 0 ≡ fault 10
   pub early-one : decode (0x02 ∷ 0x05 ∷ []) 1 ≡ fault 10
   pub claimed : decode (0x80 ∷ 0x80 ∷ 0x80 ∷ 0x80 ∷ 0x04 ∷ 0x00 ∷ []) 0 ≡ fault 10
@@ -77,9 +77,9 @@ pub record BadFilesFirst : Type 0 where
   pub sound-one : decode (0x02 ∷ 0x05 ∷ 0x05 ∷ []) 1 ≡ fault 14
   pub sound-two : decode (0x02 ∷ 0x05 ∷ 0x05 ∷ []) 2 ≡ ok (5 ∷ 11 ∷ [])
 
-pub bad-files-first : BadFilesFirst
+pub few-cells : FewCells
 unfolding decode contents whole readBody readPosition readNumber readGroups lastGroup
-bad-files-first =
+few-cells =
     record {
       early = refl;
       early-one = refl;
@@ -111,8 +111,8 @@ buffers = record { written = refl; not-written = refl; read = refl; not-read = r
 pub record All : Type 0 where
   pub of-refusals : Refusals
   pub of-edges : Edges
-  pub of-bad-files-first : BadFilesFirst
+  pub of-few-cells : FewCells
   pub of-buffers : Buffers
 
 pub all : All
-all = record { of-refusals = refusals; of-edges = edges; of-bad-files-first = bad-files-first; of-buffers = buffers }
+all = record { of-refusals = refusals; of-edges = edges; of-few-cells = few-cells; of-buffers = buffers }

@@ -6,7 +6,7 @@ use mathlib.Core.List.{List, _∷_}
 use native.Mathlib.Omega.{arith}
 use native.Mathlib.Decide.{decLt}
 use borrow.Author.Tests.{lt-ltb, le-ltb}
-use lib.ListN.{length}
+use lib.ListN.{length, drop, length-drop}
 use Rattle.positions.specs.Basics.{limit, Result, ok, fault, andThen}
 use Rattle.positions.specs.Decode.{readNumber, readPosition, readBody}
 use Rattle.positions.specs.Inner.{restOf, accepts, positionsOf}
@@ -88,6 +88,49 @@ accepts-prepend p (fault n) = refl
 pub positions-prepend : (p : ℕ) (r : Result (List ℕ × List ℕ)) → accepts r ≡ true → positionsOf (prepend p r) ≡ p ∷ positionsOf r
 positions-prepend p (ok b) h = refl
 positions-prepend p (fault n) h = absurd (false≢true h)
+
+-- the first number of a body that was judged good
+pub record First (left next : ℕ) (bytes : List ℕ) : Type 0 where
+  pub n : ℕ
+  pub rest : List ℕ
+  pub read : readNumber bytes ≡ ok (n, rest)
+  pub below : next + n < limit
+  pub body-is : readBody left next bytes ≡ prepend (next + n) (readBody (left - 1) (next + n + 1) rest)
+
+pub first-of : (left next : ℕ) (bytes : List ℕ) → 0 < left → accepts (readBody left next bytes) ≡ true → First left next bytes
+first-of left next bytes h a = go (readPosition next bytes) refl
+  where
+    go : (r : Result (ℕ × List ℕ)) → readPosition next bytes ≡ r → First left next bytes
+    go (fault m) e = absurd (false≢true (sym (ap accepts (body-fault left next bytes m h e)) ∙ a))
+    go (ok r) e =
+        let t = position-taken next bytes (r .0) (r .1) e in
+        record {
+          n = t .0;
+          rest = r .1;
+          read = t .1;
+          below = omega (arith, t .2, t .3);
+          body-is =
+              body-step left next bytes (r .0) (r .1) h e
+              ∙ ap (λ (p : ℕ). prepend p (readBody (left - 1) (p + 1) (r .1))) (t .2);
+        }
+
+-- the same by what the code read: a number and the index after it
+pub first-read : (left next : ℕ) (file : List ℕ) (at n after : ℕ) → 0 < left → accepts (readBody left next (drop at file)) ≡ true
+    → ok (n, drop after file) ≡ readNumber (drop at file)
+    → (next + n < limit)
+    × (readBody left next (drop at file) ≡ prepend (next + n) (readBody (left - 1) (next + n + 1) (drop after file)))
+first-read left next file at n after h a e =
+    let f = first-of left next (drop at file) h a in
+    let same = ok-pair (sym (f .read) ∙ sym e) in (
+      omega (arith, f .below, same .0),
+      f .body-is ∙ (λ j. prepend (next + same .0 j) (readBody (left - 1) (next + same .0 j + 1) (same .1 j))),
+    )
+
+-- there is a byte at its index
+pub first-there : (left next : ℕ) (file : List ℕ) (at : ℕ) → 0 < left → accepts (readBody left next (drop at file)) ≡ true → at < length file
+first-there left next file at h a =
+    let f = first-of left next (drop at file) h a in
+    omega (arith, number-shorter (drop at file) (f .n) (f .rest) (f .read), length-drop at file)
 
 -- a body has as many positions as were asked for, and a byte or more for each
 abbrev pub BodyHolds : ℕ → ℕ → List ℕ → Type 0

@@ -17,6 +17,8 @@ pub record GoodWithFewCells (file : List ℕ) (cells : ℕ) : Type 0 where
   pub few : cells < count
 
 pub record BadFileFirst (file : List ℕ) : Type 0 where
+  -- the faults of a file are 10 to 13
+  pub numbered : (n : ℕ) → contents file ≡ fault n → (10 ≤ n) × (n ≤ 13)
   -- "14 comes after all of them": a file with a fault gets that fault with any cells
   pub bad : (n : ℕ) → contents file ≡ fault n → (cells : ℕ) → decode file cells ≡ fault n
   -- a fault below 14 is the file's own, so with any other cells it is the same

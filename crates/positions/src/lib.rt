@@ -58,7 +58,7 @@ pub enum ReadRefusal {
     NumberTooLarge,
     // Bytes are left over.
     BytesLeftOver,
-    // There are fewer cells than the count.
+    // There are fewer cells than the count, and the file is good.
     CellsMissing,
 }
 

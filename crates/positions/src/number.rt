@@ -51,13 +51,21 @@ pub(crate) fn put(target: &mut [u8], start: usize, n: u32) -> usize
     at + 1
 }
 
-// The number that stands at `at`. Most numbers are a single byte, which is tested first.
+// The number that stands at `at`.
 pub(crate) fn read(file: &[u8], at: usize) -> Reading
     ensures { λ r. ⌜ readingIn (now (file .entry)) r ≡ readNumber (drop at (now (file .entry))) ⌝ }
 {
     if file.len() <= at {
         return Reading::Refused(ReadRefusal::FileEndsEarly);
     }
+    read_here(file, at)
+}
+
+// The number that stands at `at`, where there is a byte. Most numbers are a single byte, which is tested first.
+pub(crate) fn read_here(file: &[u8], at: usize) -> Reading
+    requires { ⌜ at < length (now file) ⌝ }
+    ensures { λ r. ⌜ readingIn (now (file .entry)) r ≡ readNumber (drop at (now (file .entry))) ⌝ }
+{
     let b = file[at] as u32;
     if b < 128 {
         return Reading::Number(b, at + 1);

@@ -1,5 +1,5 @@
 // The reader of the position list file. One pass over the bytes judges the whole file, with no regard to the cells, so that a
-// bad file is told its fault however many cells there are. Only for a good one are the cells counted, and a second pass
+// bad file gets its own fault however few cells there are. Only for a good one are the cells counted, and a second pass
 // stores the positions. So no byte is read more than twice, and a refusal leaves every cell as it was.
 ghost use mathlib.Core.Path.{_≡_};
 ghost use mathlib.Core.Bool.{true};
@@ -35,14 +35,14 @@ fn position(file: &[u8], at: usize, next: u32) -> Reading
     }
 }
 
-// Where the positions of a file end: the index after the last one, or the first fault before it.
+// Where the positions of a file end: the index after the last one, or their first fault.
 enum End {
     At(usize),
     Refused(ReadRefusal),
 }
 
-// Judges so many positions from `start` on, and stores nothing. Each round takes a byte or more, so the loop ends with the
-// file's bytes whatever the count claims.
+// Judges so many positions from `start` on, and stores nothing. Each round takes a byte or more, so the loop ends at
+// the latest where the file does, whatever the count claims.
 fn judge(file: &[u8], start: usize, count: usize) -> End
     ensures { λ r. ⌜ endIn (now (file .entry)) r ≡ restOf (readBody count 0 (drop start (now (file .entry)))) ⌝ }
 {
@@ -65,7 +65,7 @@ fn judge(file: &[u8], start: usize, count: usize) -> End
     End::At(at)
 }
 
-// Stores the positions of a file that was judged good.
+// Stores the positions of a file that was judged good. So each number has a byte, and no position is held to the limit again.
 fn store(file: &[u8], start: usize, count: usize, cells: &mut [u32])
     requires { ⌜ accepts (readBody count 0 (drop start (now file))) ≡ true ⌝ }
     requires { ⌜ count ≤ length (now cells) ⌝ }
@@ -76,13 +76,14 @@ fn store(file: &[u8], start: usize, count: usize, cells: &mut [u32])
     let mut left = count;
     let mut i: usize = 0;
     while 0 < left {
-        let found = position(file, at, next);
+        let found = number::read_here(file, at);
         match found {
             // Never: the first pass found no fault.
             Reading::Refused(_) => {
                 return;
             }
-            Reading::Number(p, after) => {
+            Reading::Number(n, after) => {
+                let p = next + n;
                 cells[i] = p;
                 next = p + 1;
                 at = after;

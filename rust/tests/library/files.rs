@@ -210,7 +210,7 @@ fn bad_files_with_few_cells() {
 }
 
 /// A reading takes time by the file's bytes and not by its count: a million readings of six bytes that claim 2^30
-/// positions, which a loop over the count could not end.
+/// positions, which a loop over the count would not finish in days.
 #[test]
 fn claims_take_no_time() {
     let start = std::time::Instant::now();

@@ -73,7 +73,7 @@ static size_t put(uint8_t *file, size_t at, uint64_t x)
     return at;
 }
 
-/* A count and so many small numbers, or large ones; the count may claim other positions than there are. */
+/* A count and so many small numbers, or large ones; the count may be another than their number. */
 static size_t draw_file(uint8_t *file)
 {
     const uint64_t positions = draw(MOST_POSITIONS + 1), widest = draw(2) == 0 ? 200 : (uint64_t)1 << 24;

@@ -178,7 +178,7 @@ static void long_values(void)
 
 static void long_lists(void)
 {
-    static const uint8_t file[] = {3, 0, 5, 5}, one_position[] = {1, 5}, claims[] = {0x80, 0x80, 0x80, 0x80, 4, 0};
+    static const uint8_t file[] = {3, 0, 5, 5}, one_position[] = {1, 5}, claims[] = {0x80, 0x80, 0x80, 0x80, 4, 5};
     uint32_t *cells = huge;
     uint8_t target[4] = {0};
     about("a list or a file with a length of 33 bits");

@@ -1,13 +1,13 @@
 /* The position list file: lists both ways with every too short buffer, lists that do not rise, and damaged files. */
-#include <string.h>
-
 #include <mitongory.h>
+#include <string.h>
 
 #include "bounds.h"
 #include "calls.h"
+#include "check.h"
 #include "parts.h"
 
-enum { MORE = 9 }; /* elements more than needed */
+enum { MORE = 9, MOST_CELLS = 9, LONGEST_FILE = 7 }; /* MORE: elements more than needed */
 
 static void list_size(const char *name, const uint32_t *list, size_t list_len, size_t answer_len, uint32_t result,
                       uint64_t told)
@@ -36,14 +36,14 @@ static void list_read(const char *name, const uint8_t *file, size_t file_len, si
 static void with_any_cells(const char *name, const uint8_t *file, size_t bytes, uint32_t fault)
 {
     size_t room;
-    for (room = 0; room < MORE; room++)
+    for (room = 0; room < MOST_CELLS; room++)
         list_read(name, file, bytes, room, 1, fault, NULL, 0);
 }
 
 /* A list with its file. */
 static void both_ways(const char *name, const uint32_t *list, size_t count, const void *file, size_t bytes)
 {
-    uint8_t longer[MORE];
+    uint8_t longer[LONGEST_FILE + 1];
     size_t room;
     list_size(name, list, count, 1, MITONGORY_OK, bytes);
     list_size(name, list, count, 3, MITONGORY_OK, bytes);
@@ -61,6 +61,7 @@ static void both_ways(const char *name, const uint32_t *list, size_t count, cons
     list_read(name, file, bytes, count, 0, MITONGORY_ANSWER_CELLS_MISSING, NULL, 0);
     for (room = 0; room < bytes; room++)
         with_any_cells(name, file, room, MITONGORY_FILE_ENDS_EARLY);
+    check(bytes < sizeof longer, "the length of the test's own file");
     memcpy(longer, file, bytes);
     longer[bytes] = 0;
     with_any_cells(name, longer, bytes + 1, MITONGORY_BYTES_LEFT_OVER);
