@@ -84,7 +84,7 @@ module _ (k x : ℕ) (small : x < 2 ^ k) (some : x ≡ 0 → ⊥) where
 
 -- One bit turned: `x ^ (1 << j)`
 
-weight-power : (j i : ℕ) → weight (2 ^ j) i ≡ cond (eqb i j) 1 0
+pub weight-power : (j i : ℕ) → weight (2 ^ j) i ≡ cond (eqb i j) 1 0
 weight-power j i = go (decLe i j) (decLe j i)
   where
     once : 1 * 2 ^ j ≡ 2 ^ j

@@ -39,7 +39,7 @@ writing-more before had found list hits p u h =
 pub writing-length : (before : List ℕ) (had : ℕ) (found list : List ℕ) (hits : ℕ) → Writing before had found list hits → length list ≡ length before
 writing-length before had found list hits u = ap length (u .cells) ∙ length-sets before had found
 
-sets-append : (l : List ℕ) (i : ℕ) (us vs : List ℕ) → sets l i (us ++ vs) ≡ sets (sets l i us) (i + length us) vs
+pub sets-append : (l : List ℕ) (i : ℕ) (us vs : List ℕ) → sets l i (us ++ vs) ≡ sets (sets l i us) (i + length us) vs
 sets-append l i [] vs = rw (add-zero i)
 sets-append l i (u ∷ us) vs =
     let there : suc i + length us ≡ i + suc (length us) = omega arith in

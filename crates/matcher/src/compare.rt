@@ -27,7 +27,7 @@ pub struct Known {
 
 // Ones for the first 57 bits of a pattern, or for all of a shorter one: what one load of eight bytes shows of it, wherever in
 // its byte a place lies.
-fn front(m: u32) -> u64
+pub fn front(m: u32) -> u64
     requires { ⌜ 0 < m ⌝ }
     ensures { λ r. ⌜ ((j : ℕ) → j < 64 → bitOf 64 r j ≡ cond (ltb j (min m 57)) 1 0) ⌝ }
 {

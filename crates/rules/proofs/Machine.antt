@@ -24,13 +24,13 @@ use Rattle.rules.proofs.Step.{next-le}
 use Rattle.rules.proofs.Methods.{sound}
 
 -- endings are told apart
-done-not-spent : (e : Ending) → e ≡ done → e ≡ spent → ⊥
+pub done-not-spent : (e : Ending) → e ≡ done → e ≡ spent → ⊥
 done-not-spent e p q = let z : _≡_ {A = ℕ} 0 1 = cc in omega arith
 
-done-not-full : (e : Ending) (n : ℕ) → e ≡ done → e ≡ full n → ⊥
+pub done-not-full : (e : Ending) (n : ℕ) → e ≡ done → e ≡ full n → ⊥
 done-not-full e n p q = let z : _≡_ {A = ℕ} 0 1 = cc in omega arith
 
-spent-not-full : (e : Ending) (n : ℕ) → e ≡ spent → e ≡ full n → ⊥
+pub spent-not-full : (e : Ending) (n : ℕ) → e ≡ spent → e ≡ full n → ⊥
 spent-not-full e n p q = let z : _≡_ {A = ℕ} 0 1 = cc in omega arith
 
 -- what was before a run, in two parts: a loop carries the first part along

@@ -25,7 +25,7 @@ use Rattle.rules.proofs.Occurrence.{occurrences-length}
 use Rattle.rules.proofs.Machine.{run-ended, left}
 use Rattle.search.proofs.Verdict.{judge-accepted, judge-refused, refused-judge}
 
-neither : (a b : Bool) → (a || b) ≡ false → (a ≡ false) × (b ≡ false)
+pub neither : (a b : Bool) → (a || b) ≡ false → (a ≡ false) × (b ≡ false)
 neither true b e = let z : _≡_ {A = ℕ} 0 1 = cc in absurd (omega arith)
 neither false b e = (refl, e)
 

@@ -50,7 +50,7 @@ module _ {A : Type 0} (a : A) where
       go true e ih g = absurd (refused-not-accepted (refused (r .number)) (r .number) b refl g)
       go false e ih g = let f = ih g in ((e, f .0), f .1)
 
-  past : (earlier : List Row) (rest : List Row) → AllFail earlier → judge (earlier ++ rest) a ≡ judge rest a
+  pub past : (earlier : List Row) (rest : List Row) → AllFail earlier → judge (earlier ++ rest) a ≡ judge rest a
   unfolding judge
   past [] rest f = refl
   past (r ∷ l) rest f = rw (f .0) (past l rest (f .1))

@@ -1,0 +1,10 @@
+-- The laws of the definitions and the theorems about them.
+pub mod Hits
+pub mod SetMachine
+pub mod Rows
+pub mod Calls
+pub mod Begins
+pub mod Entering
+pub mod Scanning
+pub mod Standing
+pub mod Running

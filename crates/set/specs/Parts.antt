@@ -1,0 +1,93 @@
+-- What the parts of a call promise each other.
+use Prim.Native.Nat.{ℕ, _+_, _*_, _/_, _%_, _^_, _≤_, _<_}
+use mathlib.Core.Path.{_≡_}
+use mathlib.Core.Bool.{Bool, true, false, cond}
+use mathlib.Core.List.{List, map}
+use lib.Bits.{bitAnd, bitOr}
+use lib.ListN.{length, getD, take}
+use lib.Seq.{sets}
+use Rattle.bits.specs.Packed.{Packed, bytesFor, bitsAt}
+use Rattle.rules.specs.declared.Method.the-variants.{Plain}
+use Rattle.search.specs.Verdict.{Verdict, refused, accepted, endingOf}
+use Rattle.search.specs.Parts.{endingAt}
+use Rattle.matcher.specs.Words.{sameWhere}
+use Rattle.matcher.specs.Lined.{Only}
+use Rattle.matcher.specs.Progress.{GoodPattern}
+use Rattle.set.specs.declared.Answer.{Answer}
+use Rattle.set.specs.declared.check.Checked.{Checked}
+use Rattle.set.specs.declared.check.Checked.the-variants.{Passed, Refused}
+use Rattle.set.specs.PatternSet.{PatternSet, patternAt, setPlaces}
+use Rattle.set.specs.Hits.{Hit, hitAt, cellsOf}
+use Rattle.set.specs.SetMachine.{setRun}
+use Rattle.set.specs.Verdict.{numberOfRefusal, roomIn, listAfter, Carries}
+use Rattle.set.specs.Fronts.{front}
+
+-- the runs and the counts as the set
+abbrev pub setOf : List ℕ → List ℕ → List ℕ → PatternSet
+setOf bytes fixed counts = record { bytes = bytes; fixed = fixed; counts = counts }
+
+-- what the check of a call says: passed, or the number of its refusal
+abbrev pub checkOf : Checked → Verdict (Unit {0})
+checkOf Passed = accepted tt
+checkOf (Refused r) = refused (numberOfRefusal r)
+
+-- What a set is when it has passed the refusals. That plain takes patterns of any length makes the method named here no
+-- matter.
+pub record GoodSet (ws : PatternSet) : Type 0 where
+  pub some : 0 < length (ws .counts)
+  pub few : length (ws .counts) ≤ 64
+  pub each : (i : ℕ) → i < length (ws .counts) → GoodPattern Plain (patternAt ws i)
+
+-- What a call may rely on when it has passed the check.
+pub record Allowed (t : Packed) (ws : PatternSet) (s : ℕ) : Type 0 where
+  pub few-bits : t .count ≤ 2 ^ 30
+  pub bytes-there : bytesFor (t .count) ≤ length (t .bytes)
+  pub patterns : GoodSet ws
+  pub inside : s ≤ setPlaces t ws
+
+-- a pattern is entered into the words of four bits from bit 4 g on: its flag is set in those that agree with it
+pub record HalfEntered (at value care flag : ℕ) (before cells : List ℕ) : Type 0 where
+  pub entered : (x : ℕ) → x < 16
+      → getD cells (at + x) 0 ≡ bitOr (getD before (at + x) 0) (cond (sameWhere (x * 2 ^ 60 % 2 ^ 64) value care 4) flag 0)
+  pub only : Only at (at + 16) before cells
+
+-- and into those of all 32 bits
+pub record Entered (value care flag : ℕ) (before cells : List ℕ) : Type 0 where
+  pub entered : (g x : ℕ) → g < 8 → x < 16
+      → getD cells (16 * g + x) 0
+      ≡ bitOr (getD before (16 * g + x) 0)
+      (cond (sameWhere (x * 2 ^ 60 % 2 ^ 64) (value * 2 ^ (4 * g) % 2 ^ 64) (care * 2 ^ (4 * g) % 2 ^ 64) 4) flag 0)
+  pub size : length cells ≡ length before
+
+-- the words of eight bits are made of those of four
+abbrev pub PairedUp : List ℕ → List ℕ → Type 0
+PairedUp halves cells = (c x : ℕ) → c < 4 → x < 256
+    → getD cells (256 * c + x) 0 ≡ bitAnd (getD halves (32 * c + x / 16) 0) (getD halves (32 * c + 16 + x % 16) 0)
+
+-- no pattern begins at the places from a on and before b, by the tables
+abbrev pub NoneIn : List ℕ → List ℕ → ℕ → ℕ → Type 0
+NoneIn text tables a b = (p : ℕ) → a ≤ p → p < b → front tables (bitsAt text p 32) ≡ 0
+
+-- the pairs of a place are written after `had` others
+abbrev pub PairsWritten : List ℕ → ℕ → ℕ → List ℕ → List ℕ → Type 0
+PairsWritten before had s numbers list = list ≡ sets before (2 * had) (cellsOf (map (hitAt s) numbers))
+
+-- All steps of a call: what the loop leaves is what the machine comes to.
+pub record Ran (t : Packed) (ws : PatternSet) (s budget : ℕ) (before : List ℕ) (at steps hits : ℕ) (cut : Bool) (list : List ℕ) : Type 0 where
+  pub steps-are : steps ≡ setRun t ws budget s (roomIn before) .steps
+  pub hits-are : hits ≡ length (setRun t ws budget s (roomIn before) .written)
+  pub mark-is : at ≡ setRun t ws budget s (roomIn before) .mark
+  pub ending-is : endingAt cut at (setPlaces t ws) ≡ setRun t ws budget s (roomIn before) .ending
+  pub list-is : list ≡ listAfter (setRun t ws budget s (roomIn before)) before
+
+-- the answer of a call by what its steps left
+pub record Tells (a : Answer) (at steps hits : ℕ) (cut : Bool) (E : ℕ) : Type 0 where
+  pub steps-are : a .steps ≡ steps
+  pub hits-are : a .occurrences ≡ hits
+  pub mark-is : a .mark .at .0 ≡ at
+  pub ending-is : endingOf (a .stop) ≡ endingAt cut at E
+
+-- What an accepted call leaves: its answer is what the machine comes to, and so is the list.
+pub record Leaves (t : Packed) (ws : PatternSet) (s budget : ℕ) (before : List ℕ) (a : Answer) (list : List ℕ) : Type 0 where
+  pub answer : Carries a (setRun t ws budget s (roomIn before))
+  pub list-is : list ≡ listAfter (setRun t ws budget s (roomIn before)) before

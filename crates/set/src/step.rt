@@ -1,0 +1,94 @@
+// One step: which patterns stand at a place, and their pairs written.
+use crate::tables;
+use bits::Place;
+use bits::load;
+use matcher::compare;
+ghost use mathlib.Core.Path.{_≡_};
+ghost use mathlib.Core.Bool.{true};
+ghost use Prim.Native.Nat.{ℕ, _+_, _*_, _^_, _≤_, _<_};
+ghost use lib.ListN.{length, take};
+ghost use Rattle.bits.specs.Packed.{bitsAt};
+ghost use Rattle.rules.specs.Occurrence.{occurs};
+ghost use Rattle.matcher.specs.Progress.{textOf, Writing};
+ghost use Rattle.set.specs.PatternSet.{patternAt};
+ghost use Rattle.set.specs.Hits.{standing};
+ghost use Rattle.set.specs.Fronts.{begins, Tables, Starts};
+ghost use Rattle.set.specs.Parts.{setOf, GoodSet, PairsWritten};
+
+// Whether pattern i stands at p, where its first 32 bits agree with the text: it has to fit, and the bits after them to agree.
+fn stands(
+    text: &[u8],
+    n: u32,
+    patterns: &[u8],
+    fixed: &[u8],
+    counts: &[u64],
+    starts: &[usize],
+    i: usize,
+    p: Place,
+) -> bool
+    requires { ⌜ GoodSet (setOf (now patterns) (now fixed) (now counts)) × (i < length (now counts)) ⌝ }
+    requires { ⌜ Starts (setOf (now patterns) (now fixed) (now counts)) (length (now counts)) (now starts) × (length (now counts) ≤ length (now starts)) ⌝ }
+    requires { ⌜ (n ≤ 2 ^ 30) × (p .0 ≤ 2 ^ 30) × (begins (patternAt (setOf (now patterns) (now fixed) (now counts)) i) 0 32 (bitsAt (now text) (p .0) 32) ≡ true) ⌝ }
+    ensures { λ r. ⌜ r ≡ occurs (textOf (now (text .entry)) n) (patternAt (setOf (now (patterns .entry)) (now (fixed .entry)) (now (counts .entry))) i) (p .0) ⌝ }
+{
+    let at = p.0;
+    let m = counts[i] as u32;
+    if n < at + m {
+        return false;
+    }
+    if m <= 32 {
+        return true;
+    }
+    let start = starts[i];
+    compare::stands(text, &patterns[start..], &fixed[start..], m, p)
+}
+
+// The numbers of the patterns that stand at p, into the front of `numbers`, and how many they are. Flags are taken lowest
+// first.
+pub fn find(
+    text: &[u8],
+    n: u32,
+    patterns: &[u8],
+    fixed: &[u8],
+    counts: &[u64],
+    starts: &[usize],
+    cells: &[u64],
+    p: Place,
+    numbers: &mut [u32],
+) -> usize
+    requires { ⌜ GoodSet (setOf (now patterns) (now fixed) (now counts)) × (64 ≤ length (now numbers)) ⌝ }
+    requires { ⌜ Starts (setOf (now patterns) (now fixed) (now counts)) (length (now counts)) (now starts) × (length (now counts) ≤ length (now starts)) ⌝ }
+    requires { ⌜ Tables (setOf (now patterns) (now fixed) (now counts)) (now cells) × (1024 ≤ length (now cells)) ⌝ }
+    requires { ⌜ (n ≤ 2 ^ 30) × (p .0 ≤ 2 ^ 30) ⌝ }
+    ensures { λ r. ⌜ Writing (now (numbers .entry)) 0 (standing (textOf (now (text .entry)) n) (setOf (now (patterns .entry)) (now (fixed .entry)) (now (counts .entry))) (p .0)) (now (numbers .exit)) r ⌝ }
+{
+    let mut f = tables::flags(cells, load::word_at(text, p) >> 32);
+    let mut from = 0u32;
+    let mut count = 0usize;
+    while f != 0 {
+        let z = u64::trailing_zeros(f);
+        let i = from + z;
+        f = (f >> z) >> 1;
+        from = i + 1;
+        if stands(text, n, patterns, fixed, counts, starts, i as usize, p) {
+            numbers[count] = i;
+            count += 1;
+        }
+    }
+    count
+}
+
+// Writes the pairs of a place after `had` others: the place and each number.
+pub fn write(list: &mut [u32], had: usize, p: Place, numbers: &[u32], count: usize)
+    requires { ⌜ (2 * (had + count) ≤ length (now list)) × (count ≤ length (now numbers)) ⌝ }
+    ensures { λ _. ⌜ PairsWritten (now (list .entry)) had (p .0) (take count (now (numbers .entry))) (now (list .exit)) ⌝ }
+{
+    let s = p.0;
+    let mut j = 0usize;
+    while j < count {
+        let at = 2 * (had + j);
+        list[at] = s;
+        list[at + 1] = numbers[j];
+        j += 1;
+    }
+}

@@ -1,0 +1,87 @@
+// The tables of a set: which patterns begin with given bits, a flag for each pattern. First come words for four bits each,
+// into which the patterns are entered one after the other; the tables, for eight bits each, are made of pairs of these.
+use bits::ByteNo;
+use bits::load;
+use matcher::compare;
+ghost use mathlib.Core.Path.{_≡_};
+ghost use Prim.Native.Nat.{ℕ, _+_, _*_, _^_, _≤_, _<_};
+ghost use lib.ListN.{length, getD};
+ghost use Rattle.set.specs.Fronts.{Halves, Starts, front};
+ghost use Rattle.set.specs.Parts.{setOf, GoodSet, HalfEntered, Entered, PairedUp};
+
+// Sets the flag in the words, from cell `at` on, of those values of four bits that agree with the first four of `value`
+// where `care` has ones.
+fn enter_half(cells: &mut [u64], at: usize, value: u64, care: u64, flag: u64)
+    requires { ⌜ at + 16 ≤ length (now cells) ⌝ }
+    ensures { λ _. ⌜ HalfEntered at value care flag (now (cells .entry)) (now (cells .exit)) ⌝ }
+{
+    let mut x = 0usize;
+    while x < 16 {
+        if compare::same_where((x as u64) << 60, value, care, 4) {
+            cells[at + x] = cells[at + x] | flag;
+        }
+        x += 1;
+    }
+}
+
+// The same for the first 32 bits, four at a time.
+fn enter(cells: &mut [u64], value: u64, care: u64, flag: u64)
+    requires { ⌜ 128 ≤ length (now cells) ⌝ }
+    ensures { λ _. ⌜ Entered value care flag (now (cells .entry)) (now (cells .exit)) ⌝ }
+{
+    let mut g = 0usize;
+    while g < 8 {
+        enter_half(cells, 16 * g, value << (4 * g), care << (4 * g), flag);
+        g += 1;
+    }
+}
+
+// Where each pattern begins, and the words for four bits each.
+pub fn enter_all(
+    patterns: &[u8],
+    fixed: &[u8],
+    counts: &[u64],
+    starts: &mut [usize],
+    halves: &mut [u64],
+)
+    requires { ⌜ GoodSet (setOf (now patterns) (now fixed) (now counts)) ⌝ }
+    requires { ⌜ (64 ≤ length (now starts)) × (128 ≤ length (now halves)) × ((z : ℕ) → getD (now halves) z 0 ≡ 0) ⌝ }
+    ensures { λ _. ⌜ Starts (setOf (now (patterns .entry)) (now (fixed .entry)) (now (counts .entry))) (length (now (counts .entry))) (now (starts .exit)) × Halves (setOf (now (patterns .entry)) (now (fixed .entry)) (now (counts .entry))) (length (now (counts .entry))) (now (halves .exit)) ⌝ }
+{
+    let mut start = 0usize;
+    let mut i = 0usize;
+    while i < counts.len() {
+        let m = counts[i];
+        let value = load::word_near_end(&patterns[start..], ByteNo(0));
+        let care = load::word_near_end(&fixed[start..], ByteNo(0)) & compare::front(m as u32);
+        enter(halves, value, care, 1 << i);
+        starts[i] = start;
+        start += bits::bytes_for(m) as usize;
+        i += 1;
+    }
+}
+
+// The words for eight bits each: those of the first four and of the last four that agree.
+pub fn pair_up(halves: &[u64], cells: &mut [u64])
+    requires { ⌜ (128 ≤ length (now halves)) × (1024 ≤ length (now cells)) ⌝ }
+    ensures { λ _. ⌜ PairedUp (now (halves .entry)) (now (cells .exit)) × (length (now (cells .exit)) ≡ length (now (cells .entry))) ⌝ }
+{
+    let mut z = 0usize;
+    while z < 1024 {
+        let from = 32 * (z / 256);
+        cells[z] = halves[from + z % 256 / 16] & halves[from + 16 + z % 16];
+        z += 1;
+    }
+}
+
+// The flags of the patterns whose first 32 bits agree with v.
+pub fn flags(tables: &[u64], v: u64) -> u64
+    requires { ⌜ (1024 ≤ length (now tables)) × (v < 2 ^ 32) ⌝ }
+    ensures { λ r. ⌜ r ≡ front (now (tables .entry)) v ⌝ }
+{
+    let a = (v >> 24) as usize;
+    let b = ((v >> 16) % 256) as usize;
+    let c = ((v >> 8) % 256) as usize;
+    let d = (v % 256) as usize;
+    (tables[a] & tables[256 + b]) & (tables[512 + c] & tables[768 + d])
+}
