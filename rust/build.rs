@@ -12,6 +12,9 @@ const DIR_VARIABLE: &str = "MITONGORY_LIB_DIR";
 /// The archive exports a function of this name and its version, major and minor: `mitongory_version_0_7`.
 const VERSION_SYMBOL: &str = "mitongory_version_";
 
+/// The call that was added last. An earlier archive of the same version, major and minor, does not have it.
+const LAST_CALL: &str = "mitongory_search_set";
+
 fn main() {
     println!("cargo:rerun-if-changed=build.rs");
     println!("cargo:rerun-if-env-changed={DIR_VARIABLE}");
@@ -43,29 +46,31 @@ pub(crate) fn judge(dir: &Path, target: &str, version: &str) -> Result<(), Strin
         return Err(format!("the archive is code for x86_64-linux, and the target is {target}"));
     }
     let archive = dir.join(ARCHIVE);
+    let path = archive.display();
     let bytes = fs::read(&archive).map_err(|error| {
-        let path = archive.display();
         format!("{path} cannot be read ({error}): run `make lib` first, or name its folder in {DIR_VARIABLE}")
     })?;
     let wanted = format!("{VERSION_SYMBOL}{version}");
-    let found = version_symbols(&bytes);
-    if found.contains(&wanted) {
-        return Ok(());
+    let names = symbols(&bytes, VERSION_SYMBOL);
+    if !names.contains(&wanted) {
+        let names: Vec<String> = names.into_iter().collect();
+        let found = if names.is_empty() { String::from("no version") } else { names.join(", ") };
+        let needs = format!("the crate has version {} and needs {wanted}", version.replace('_', "."));
+        return Err(format!("{needs}, but {path} exports {found}: run `make lib` again"));
     }
-    let names: Vec<String> = found.into_iter().collect();
-    let found = if names.is_empty() { String::from("no version") } else { names.join(", ") };
-    let (path, version) = (archive.display(), version.replace('_', "."));
-    Err(format!("the crate has version {version} and needs {wanted}, but {path} exports {found}: run `make lib` again"))
+    if !symbols(&bytes, LAST_CALL).contains(LAST_CALL) {
+        return Err(format!("{path} is too old and has no {LAST_CALL}: run `make lib` again"));
+    }
+    Ok(())
 }
 
-/// The version symbols in an archive's bytes. Each is taken whole, so that `mitongory_version_0_7` is not found in
-/// `mitongory_version_0_70`, and the name of a section, in which a point comes before it, is none.
-fn version_symbols(archive: &[u8]) -> BTreeSet<String> {
-    let prefix = VERSION_SYMBOL.as_bytes();
-    let begins = |at: &usize| archive[*at..].starts_with(prefix) && (*at == 0 || archive[*at - 1] != b'.');
+/// The symbols in an archive's bytes that begin with a prefix. Each is taken whole, so that `mitongory_version_0_7` is not
+/// found in `mitongory_version_0_70`, and the name of a section, in which a point comes before it, is none.
+fn symbols(archive: &[u8], prefix: &str) -> BTreeSet<String> {
+    let begins = |at: &usize| archive[*at..].starts_with(prefix.as_bytes()) && (*at == 0 || archive[*at - 1] != b'.');
     let symbol = |at: usize| {
-        let version = archive[at + prefix.len()..].iter().map(|&byte| char::from(byte));
-        VERSION_SYMBOL.chars().chain(version.take_while(|c| c.is_ascii_digit() || *c == '_')).collect()
+        let rest = archive[at + prefix.len()..].iter().map(|&byte| char::from(byte));
+        prefix.chars().chain(rest.take_while(|c| c.is_ascii_alphanumeric() || *c == '_')).collect()
     };
     (0..archive.len()).filter(begins).map(symbol).collect()
 }

@@ -38,6 +38,23 @@ mod raw {
             answer: *mut u64,
             answer_len: usize,
         ) -> u32;
+        pub(super) fn mitongory_search_set(
+            text: *const u8,
+            text_len: usize,
+            n: u64,
+            patterns: *const u8,
+            patterns_len: usize,
+            fixed: *const u8,
+            fixed_len: usize,
+            counts: *const u64,
+            counts_len: usize,
+            mark: u32,
+            budget: u32,
+            list: *mut u32,
+            list_len: usize,
+            answer: *mut u64,
+            answer_len: usize,
+        ) -> u32;
         pub(super) fn mitongory_scratch_cells(method: u32, m: u64, answer: *mut u64, answer_len: usize) -> u32;
         pub(super) fn mitongory_hash_value(
             pattern: *const u8,
@@ -139,6 +156,42 @@ pub fn search(
             list.len(),
             scratch.as_mut_ptr(),
             scratch.len(),
+            answer.as_mut_ptr(),
+            answer.len(),
+        )
+    }
+}
+
+/// A search call for a set of patterns. They lie one after the other in `patterns`, each from a whole byte on, and alike
+/// in `fixed`, and `counts` has how many bits each pattern has. An occurrence takes two cells of the list, its place and
+/// the number of its pattern. The answer's four cells are those of [`search`].
+pub fn search_set(
+    text: &[u8],
+    n: u64,
+    patterns: &[u8],
+    fixed: &[u8],
+    counts: &[u64],
+    mark: u32,
+    budget: u32,
+    list: &mut [u32],
+    answer: &mut [u64],
+) -> u32 {
+    // SAFETY: each pointer and length come from one live slice, and the `&mut` slices overlap nothing.
+    unsafe {
+        raw::mitongory_search_set(
+            text.as_ptr(),
+            text.len(),
+            n,
+            patterns.as_ptr(),
+            patterns.len(),
+            fixed.as_ptr(),
+            fixed.len(),
+            counts.as_ptr(),
+            counts.len(),
+            mark,
+            budget,
+            list.as_mut_ptr(),
+            list.len(),
             answer.as_mut_ptr(),
             answer.len(),
         )

@@ -4,9 +4,10 @@ use std::fmt;
 
 /// Why a call was refused. A refused call changes nothing: no cell, no byte, no mark.
 ///
-/// A search is refused with the first of 1, 2, 3, 4, 17, 5, 6 and 7 that applies, a file with its first fault from front
-/// to back, 10 to 13, or a good one with 14 where there are fewer cells than its count, a sitting with the first of 15,
-/// 16, 8 and 9. Where none applies, the call is accepted.
+/// A search is refused with the first of 1, 2, 3, 4, 17, 5, 6 and 7 that applies, a search for a set of patterns with the
+/// first of 1, 2, 18, then 3, 4 and 17 for each pattern in turn, and 6, a file with its first fault from front to back, 10
+/// to 13, or a good one with 14 where there are fewer cells than its count, a sitting with the first of 15, 16, 8 and 9.
+/// Where none applies, the call is accepted.
 ///
 /// ```
 /// use mitongory::{Pattern, Refusal};
@@ -56,6 +57,8 @@ pub enum Refusal {
     CountsDiffer = 16,
     /// The run that says which bits of the pattern are fixed has fewer bytes than the pattern's bits take.
     FixedBytesMissing = 17,
+    /// The set has no patterns, or more than 64.
+    SetSize = 18,
 }
 
 impl Refusal {
@@ -64,7 +67,7 @@ impl Refusal {
     /// ```
     /// use mitongory::Refusal;
     ///
-    /// assert!(Refusal::ALL.iter().map(|refusal| refusal.number()).eq(1..=17));
+    /// assert!(Refusal::ALL.iter().map(|refusal| refusal.number()).eq(1..=18));
     /// ```
     pub const ALL: &'static [Refusal] = &[
         Refusal::TextTooLong,
@@ -84,9 +87,10 @@ impl Refusal {
         Refusal::TooManySheets,
         Refusal::CountsDiffer,
         Refusal::FixedBytesMissing,
+        Refusal::SetSize,
     ];
 
-    /// The number in the requirements, 1 to 17.
+    /// The number in the requirements, 1 to 18.
     ///
     /// ```
     /// assert_eq!(mitongory::Refusal::BeyondEnd.number(), 6);
@@ -139,6 +143,7 @@ impl fmt::Display for Refusal {
             Refusal::FixedBytesMissing => {
                 "the run that says which bits of the pattern are fixed has fewer bytes than these take"
             }
+            Refusal::SetSize => "the set has no patterns, or more than 64",
         };
         write!(f, "refusal {}: {why}", self.number())
     }

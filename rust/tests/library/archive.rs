@@ -20,7 +20,7 @@ fn version_of_the_crate() {
     let minor = part(env!("CARGO_PKG_VERSION_MINOR"));
     let patch = part(env!("CARGO_PKG_VERSION_PATCH"));
     assert_eq!(ffi::version(), major * 10_000 + minor * 100 + patch);
-    assert_eq!(ffi::version(), 700);
+    assert_eq!(ffi::version(), 701);
     let declared = include_str!("../../src/ffi.rs");
     assert!(declared.contains(&format!("mitongory_version_{major}_{minor}()")));
 }
@@ -45,7 +45,11 @@ fn archives_that_the_build_refuses() {
         let needs = "the crate has version 0.7 and needs mitongory_version_0_7";
         Err(format!("{needs}, but DIR/libmitongory.a exports {found}: run `make lib` again"))
     };
-    assert_eq!(judged(Some(&symbols(&["mitongory_search", "mitongory_version_0_7"]))), Ok(()));
+    assert_eq!(judged(Some(&symbols(&["mitongory_search_set", "mitongory_version_0_7"]))), Ok(()));
+    let old = "DIR/libmitongory.a is too old and has no mitongory_search_set: run `make lib` again";
+    for call in ["mitongory_search", "mitongory_search_sets", ".text.mitongory_search_set"] {
+        assert_eq!(judged(Some(&symbols(&[call, "mitongory_version_0_7"]))), Err(String::from(old)));
+    }
     assert_eq!(judged(Some(&symbols(&["mitongory_search"]))), exports("no version"));
     assert_eq!(judged(Some(&symbols(&["mitongory_version_0_70"]))), exports("mitongory_version_0_70"));
     let two = ["mitongory_version_1_0", "mitongory_version_0_1", "mitongory_version_1_0"];

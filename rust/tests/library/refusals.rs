@@ -163,7 +163,7 @@ fn numbers_and_messages() {
         assert_eq!(Refusal::from_number(refusal.number()), Some(refusal));
         assert!(refusal.to_string().starts_with(&format!("refusal {}: ", i + 1)));
     }
-    for number in [0, 18, 100, 101, u32::MAX] {
+    for number in [0, 19, 100, 101, u32::MAX] {
         assert_eq!(Refusal::from_number(number), None);
     }
     let error: Box<dyn std::error::Error> = Refusal::FileEndsEarly.into();
