@@ -14,5 +14,10 @@ pub(crate) fn check(number: u32) -> Result<(), Refusal> {
 pub(crate) fn answer<T: TryFrom<u64>>(call: impl FnOnce(&mut [u64]) -> u32) -> Result<T, Refusal> {
     let mut cell = [0];
     check(call(&mut cell))?;
-    Ok(T::try_from(cell[0]).ok().expect("the library answers in its type's range"))
+    Ok(of_cell(cell[0]))
+}
+
+/// What an answer's cell holds.
+pub(crate) fn of_cell<T: TryFrom<u64>>(cell: u64) -> T {
+    T::try_from(cell).ok().expect("the library answers in its type's range")
 }

@@ -185,6 +185,7 @@
 
 mod bits;
 mod call;
+mod calls;
 #[doc(hidden)]
 pub mod ffi;
 pub mod marking;
@@ -192,18 +193,25 @@ mod method;
 mod occurrences;
 mod packed;
 mod pattern;
+mod pattern_set;
 pub mod positions;
 mod refusal;
 mod search;
+mod search_set;
+mod set_occurrences;
 mod text;
 mod wild_bits;
 
 pub use bits::{Bits, NotABit};
+pub use calls::Progress;
 pub use method::{Method, UnknownMethod};
-pub use occurrences::{Occurrences, Progress};
+pub use occurrences::Occurrences;
 pub use pattern::Pattern;
+pub use pattern_set::PatternSet;
 pub use refusal::Refusal;
 pub use search::{search, Answer, Mark, Scratch, Stop, SCRATCH_CELLS};
+pub use search_set::search_set;
+pub use set_occurrences::SetOccurrences;
 pub use text::Text;
 pub use wild_bits::WildBits;
 

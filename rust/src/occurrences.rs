@@ -1,19 +1,12 @@
 //! All occurrences of a pattern, one after another.
+use crate::calls::{self, Calls, Progress};
 use crate::method::Method;
 use crate::pattern::Pattern;
 use crate::refusal::Refusal;
-use crate::search::{search, Mark, Scratch, Stop};
+use crate::search::{search, Mark, Scratch};
 use crate::text::Text;
 use std::fmt;
 use std::iter::FusedIterator;
-
-/// How many occurrences a call may write. Each call makes its tables anew, some microseconds of work at most; over so
-/// many occurrences that is little.
-const CELLS: usize = 1024;
-
-/// The budget of each call that `next` makes: some milliseconds of work, so that a call makes its tables seldom and yet
-/// ends soon.
-const CALL_STEPS: u32 = 1 << 20;
 
 /// An iterator over all occurrences of a pattern, rising: the places at which it occurs in a text.
 ///
@@ -41,26 +34,8 @@ pub struct Occurrences<'a> {
     text: Text<'a>,
     pattern: Pattern<'a>,
     method: Method,
-    /// Where the next call goes on.
-    next_call: Mark,
-    done: bool,
     scratch: Scratch,
-    list: Vec<u32>,
-    /// The occurrences of the last call are `list[..written]`, and those from `next` on are still to be given.
-    written: usize,
-    next: usize,
-}
-
-/// What [`Occurrences::next_within`] came to.
-#[derive(Clone, Copy, Debug, PartialEq, Eq, Hash)]
-#[must_use = "it may hold an occurrence"]
-pub enum Progress {
-    /// The next occurrence.
-    Occurrence(u32),
-    /// The budget was spent before the next occurrence, and there is none before this mark that was not given.
-    Working(Mark),
-    /// Every occurrence was given.
-    Done,
+    calls: Calls<1>,
 }
 
 impl<'a> Occurrences<'a> {
@@ -113,17 +88,7 @@ impl<'a> Occurrences<'a> {
         let mut scratch = Scratch::for_search(method, pattern)?;
         // A call with no budget makes no step, but judges every refusal.
         let answer = search(text, pattern, method, mark, 0, &mut [], &mut scratch)?;
-        Ok(Occurrences {
-            text,
-            pattern,
-            method,
-            next_call: answer.mark,
-            done: answer.stop == Stop::Done,
-            scratch,
-            list: vec![0; CELLS],
-            written: 0,
-            next: 0,
-        })
+        Ok(Occurrences { text, pattern, method, scratch, calls: Calls::after(answer) })
     }
 
     /// Where the iterator is: no occurrence before this mark is still to be given, and none from it on was given.
@@ -142,10 +107,7 @@ impl<'a> Occurrences<'a> {
     /// ```
     #[must_use]
     pub fn mark(&self) -> Mark {
-        match self.found().first() {
-            Some(&place) => Mark::at(place),
-            None => self.next_call,
-        }
+        self.calls.mark()
     }
 
     /// The next occurrence, if it is at hand or one call of [`search`] with this budget of steps finds it; else how far
@@ -171,33 +133,9 @@ impl<'a> Occurrences<'a> {
     /// # }
     /// ```
     pub fn next_within(&mut self, budget: u32) -> Progress {
-        if self.found().is_empty() && !self.done {
-            self.call(budget);
-        }
-        match self.found().first() {
-            Some(&place) => {
-                self.next += 1;
-                Progress::Occurrence(place)
-            }
-            None if self.done => Progress::Done,
-            None => Progress::Working(self.next_call),
-        }
-    }
-
-    /// The occurrences that are at hand.
-    fn found(&self) -> &[u32] {
-        &self.list[self.next..self.written]
-    }
-
-    /// One more call.
-    fn call(&mut self, budget: u32) {
-        let (text, pattern, method, mark) = (self.text, self.pattern, self.method, self.next_call);
-        let answer = search(text, pattern, method, mark, budget, &mut self.list, &mut self.scratch)
-            .expect("what was accepted once is accepted at any later mark");
-        self.next_call = answer.mark;
-        self.done = answer.stop == Stop::Done;
-        self.written = answer.occurrences;
-        self.next = 0;
+        let (text, pattern, method, scratch) = (self.text, self.pattern, self.method, &mut self.scratch);
+        let call = |mark, list: &mut [u32]| search(text, pattern, method, mark, budget, list, scratch);
+        self.calls.next_within(call).map(|[place]| place)
     }
 }
 
@@ -205,20 +143,11 @@ impl Iterator for Occurrences<'_> {
     type Item = u32;
 
     fn next(&mut self) -> Option<u32> {
-        loop {
-            match self.next_within(CALL_STEPS) {
-                Progress::Occurrence(place) => return Some(place),
-                Progress::Working(_) => {}
-                Progress::Done => return None,
-            }
-        }
+        calls::next(|budget| self.next_within(budget))
     }
 
     fn size_hint(&self) -> (usize, Option<usize>) {
-        let found = self.found().len();
-        // No more occurrences than bits after the mark.
-        let left = if self.done { 0 } else { self.text.bit_count() - u64::from(self.next_call.place()) };
-        (found, Some(found + left as usize))
+        self.calls.size_hint(self.text.bit_count(), 1)
     }
 }
 

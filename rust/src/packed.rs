@@ -52,6 +52,11 @@ pub(crate) const fn bits_in(bytes: &[u8]) -> u64 {
     (bytes.len() as u64).saturating_mul(8)
 }
 
+/// How many bytes so many bits take.
+pub(crate) const fn bytes_for(bit_count: u64) -> usize {
+    bit_count.div_ceil(8) as usize
+}
+
 /// The `Debug` form of a type with these bits: the bit count and the first bits.
 pub(crate) fn debug(
     name: &str,

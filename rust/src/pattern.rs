@@ -154,8 +154,9 @@ impl<'a> Pattern<'a> {
         packed::wild_characters(self.bits, self.fixed)
     }
 
-    /// All that a search looks at: of each byte the fixed bits, with zeros at all others, and which ones they are.
-    fn compared(self) -> impl Iterator<Item = (u8, u8)> + 'a {
+    /// All that a search looks at: of each byte the fixed bits, with zeros at all others, and which ones they are. After
+    /// bits that fill their bytes comes one byte of zeros.
+    pub(crate) fn compared(self) -> impl Iterator<Item = (u8, u8)> + 'a {
         let bytes = |packed: Packed<'a>| {
             let (whole, last) = packed.parts();
             whole.iter().copied().chain([last])

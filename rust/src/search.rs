@@ -49,25 +49,44 @@ impl Mark {
 pub enum Stop {
     /// Every place is decided.
     Done,
-    /// The occurrence at this place found no free cell in the list. The mark is at it. The step that came to it is not
-    /// counted; the next call's step from here counts as usual, unless it is cut too.
+    /// The occurrence at this place found no free cell in the list; for a set of patterns, those at this place did not all
+    /// find cells. The mark is at it. The step that came to it is not counted; the next call's step from here counts as
+    /// usual, unless it is cut too.
     Full(u32),
     /// The budget was spent before the last place was decided.
     Spent,
 }
 
-/// What an accepted call answers.
+/// What an accepted call answers: [`search`], or [`search_set`](crate::search_set()) for a set of patterns.
 #[derive(Clone, Copy, Debug, PartialEq, Eq, Hash)]
 #[must_use = "it says how many cells of the list hold occurrences, and where to go on"]
 pub struct Answer {
     /// The steps made, at most the budget. A step that a full list cuts is not counted.
     pub steps: u32,
-    /// How many occurrences were written to the front of the list.
+    /// How many occurrences were written to the front of the list. Each takes a cell, and for a set of patterns two.
     pub occurrences: usize,
     /// Where the next call goes on.
     pub mark: Mark,
     /// How the call stopped.
     pub stop: Stop,
+}
+
+impl Answer {
+    /// The answer that an accepted call left in its four cells.
+    pub(crate) fn of([steps, occurrences, mark, stop]: [u64; 4]) -> Answer {
+        let mark = Mark(call::of_cell(mark));
+        Answer {
+            steps: call::of_cell(steps),
+            occurrences: call::of_cell(occurrences),
+            mark,
+            stop: match stop {
+                0 => Stop::Done,
+                1 => Stop::Full(mark.place()),
+                2 => Stop::Spent,
+                _ => unreachable!("a call stops in one of three ways"),
+            },
+        }
+    }
 }
 
 /// The cells for the tables that a call makes. Any content will do, so one scratch serves many calls: [`new`](Scratch::new)
@@ -218,17 +237,5 @@ pub fn search(
         &mut scratch.cells,
         &mut answer,
     ))?;
-    let [steps, occurrences, place, stop] =
-        answer.map(|cell| u32::try_from(cell).expect("the library answers with numbers of 32 bits"));
-    Ok(Answer {
-        steps,
-        occurrences: occurrences as usize,
-        mark: Mark(place),
-        stop: match stop {
-            0 => Stop::Done,
-            1 => Stop::Full(place),
-            2 => Stop::Spent,
-            _ => unreachable!("a call stops in one of three ways"),
-        },
-    })
+    Ok(Answer::of(answer))
 }
