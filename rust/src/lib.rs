@@ -3,7 +3,8 @@
 //! The crate lists every place where a *pattern* of 1 to 2,048 bits occurs in a *text* of up to 2^30 bits. A place is a
 //! bit number: a pattern may occur from any bit on, not only where a byte begins, and occurrences may overlap. Bits of a
 //! pattern may be wild, and then any bit of the text will do there. There are five methods of searching, which find the
-//! same occurrences, and a file format for lists of positions. Such lists can be marked against a key.
+//! same occurrences; up to 64 patterns can be searched for in one pass; and there is a file format for lists of positions.
+//! Such lists can be marked against a key.
 //!
 //! The work is done by a library in which every function is proved to meet its contract. It is linked as a static
 //! archive. This crate gives its calls Rust types and adds no rule of its own. It has no dependencies.
@@ -125,6 +126,28 @@
 //!
 //! [`Occurrences::next_within`] is the same bound for the iterator, and [`Occurrences::mark`] its mark.
 //!
+//! # A set of patterns
+//!
+//! A [`PatternSet`] is 1 to 64 patterns, of any lengths, that are searched for together in one pass. Each has a number, from
+//! 0 on. [`SetOccurrences`] is the iterator over all places at which one of them occurs, each with the number:
+//!
+//! ```
+//! use mitongory::{Bits, PatternSet, SetOccurrences, WildBits};
+//!
+//! # fn main() -> Result<(), Box<dyn std::error::Error>> {
+//! let long: Bits = "011001001000100110100101000101001001".parse()?;
+//! let words: [WildBits; 3] = ["0100110100".parse()?, "0100??0100".parse()?, "1000".parse()?];
+//! let set = PatternSet::new(words.iter().map(WildBits::pattern).collect::<Result<Vec<_>, _>>()?)?;
+//!
+//! let found: Vec<(u32, usize)> = SetOccurrences::new(long.text()?, &set).collect();
+//! assert_eq!(found, [(8, 2), (11, 0), (11, 1), (22, 1), (24, 2)]);
+//! # Ok(())
+//! # }
+//! ```
+//!
+//! [`search_set`] is the call under it, with a mark, a budget and a list. An occurrence takes two cells of the list, its place
+//! and its number, and those at one place are all written or none is. It takes no scratch.
+//!
 //! # Refusals
 //!
 //! A call that cannot be made is refused with a [`Refusal`], which has a number and says why; nothing is then changed.
@@ -177,11 +200,11 @@
 //! # What is proved
 //!
 //! For every input, refusals included, each call of the library answers as its short definition says and leaves every
-//! buffer as that says; the calls of a search, joined, list every occurrence once (see [`search`]); and what a call
-//! answers depends neither on its scratch, if that has enough cells (see [`Scratch`]), nor on the values of wild bits (see
-//! [`Pattern`]). The proofs end at the archive. This crate's Rust code, its declarations of the calls, and the compiler
-//! and linker are not proved: the crate is tested against a naive search, a naive codec and naive marking. One module has
-//! `unsafe` code, around the calls.
+//! buffer as that says; the calls of a search, joined, list every occurrence once (see [`search`] and, for a set of
+//! patterns, [`search_set`]); and what a call answers depends neither on its scratch, if that has enough cells (see
+//! [`Scratch`]), nor on the values of wild bits (see [`Pattern`]). The proofs end at the archive. This crate's Rust code,
+//! its declarations of the calls, and the compiler and linker are not proved: the crate is tested against a naive search,
+//! a naive codec and naive marking. One module has `unsafe` code, around the calls.
 
 mod bits;
 mod call;
