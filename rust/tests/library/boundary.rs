@@ -22,6 +22,20 @@ fn search(text: &[u8], n: u64, pattern: &[u8], m: u64, numbers: [u32; 3], list: 
     search_with(text, n, [pattern, &ALL_FIXED], m, numbers, list)
 }
 
+/// A search for a set of patterns, with its two runs and its counts: the number and the answer.
+fn search_set(
+    text: &[u8],
+    n: u64,
+    [patterns, fixed]: [&[u8]; 2],
+    counts: &[u64],
+    [mark, budget]: [u32; 2],
+    list: &mut [u32],
+) -> (u32, [u64; 4]) {
+    let mut answer = [9; 4];
+    let said = ffi::search_set(text, n, patterns, fixed, counts, mark, budget, list, &mut answer);
+    (said, answer)
+}
+
 const ALL_FIXED: [u8; 256] = [0xff; 256];
 
 const ALL: u32 = u32::MAX;
@@ -49,25 +63,33 @@ fn numbers_of_32_bits() {
             (6, UNCHANGED)
         };
         assert_eq!(search(&text, n, &[0x80], 1, [0, mark, 0], &mut []), want);
+        assert_eq!(search_set(&text, n, [&[0x80; 2]; 2], &[1, 1], [mark, 0], &mut []), want);
         let made = n.min(budget.into());
-        assert_eq!(search(&text, n, &[0x80], 1, [0, 0, budget], &mut []).1, [made, 0, made, 2 * u64::from(made < n)]);
+        let want = [made, 0, made, 2 * u64::from(made < n)];
+        assert_eq!(search(&text, n, &[0x80], 1, [0, 0, budget], &mut []).1, want);
+        assert_eq!(search_set(&text, n, [&[0x80; 2]; 2], &[1, 1], [0, budget], &mut []).1, want);
     }
+    assert_eq!(search_set(&text, n, [&[0x80]; 2], &[1], [ALL, ALL], &mut []), (6, UNCHANGED));
     assert_eq!(search(&text, n, &[0x80], 1, [0, ALL, ALL], &mut []), (6, UNCHANGED));
     assert_eq!(search(&text, n, &[0x80], 1, [0, n as u32, ALL], &mut []), (0, [0, 0, n, 0]));
 }
 
-/// Every bit of the 64 bits of n, of m and of a sheet's count counts.
+/// Every bit of the 64 bits of n, of m, of the count of a pattern of a set and of a sheet's count counts.
 #[test]
 fn counts_of_64_bits() {
     let bytes = [0xff; 300];
     for bit in 31..64 {
         let more = 1u64 << bit;
         assert_eq!(search(&bytes, more | 16, &bytes, 8, [0, 0, ALL], &mut []), (1, UNCHANGED));
+        assert_eq!(search_set(&bytes, more | 16, [&bytes; 2], &[8], [0, ALL], &mut []), (1, UNCHANGED));
         assert_eq!(ffi::eight_bits(&bytes, more | 16, 0, &mut [9]), 1);
     }
     for bit in 12..64 {
         let more = 1u64 << bit;
         assert_eq!(search(&bytes, 16, &bytes, more | 8, [0, 0, ALL], &mut []), (3, UNCHANGED));
+        for counts in [[more | 8, 8, 8], [8, more | 8, 8], [8, 8, more | 8]] {
+            assert_eq!(search_set(&bytes, 16, [&bytes; 2], &counts, [0, ALL], &mut []), (3, UNCHANGED));
+        }
         assert_eq!(ffi::hash_value(&bytes, &bytes, more | 8, 0, &mut [9]), 3);
         assert_eq!(ffi::scratch_cells(0, more | 8, &mut [9]), 3);
     }
@@ -100,6 +122,29 @@ fn lengths() {
             assert_eq!(ffi::hash_value(&bytes, &bytes[..len], bits, 0, &mut [9]), want);
         }
     }
+    // The second of two patterns, which begins on the second byte.
+    for bits in 1..=300u64 {
+        for len in 0..=38 {
+            let short = (len as u64) < bits.div_ceil(8);
+            let set = |runs| search_set(&[], 0, runs, &[3, bits], [0, 0], &mut []).0;
+            assert_eq!(set([&bytes[..=len], &bytes]), 4 * u32::from(short));
+            assert_eq!(set([&bytes, &bytes[..=len]]), 17 * u32::from(short));
+        }
+    }
+    for patterns in 0..=130 {
+        let want = if (1..=64).contains(&patterns) { 0 } else { 18 };
+        assert_eq!(search_set(&[], 0, [&ALL_FIXED; 2], &vec![1; patterns], [0, 0], &mut []).0, want);
+    }
+    // Three pairs for each of 20 places.
+    for cells in 0..=140 {
+        let mut list = vec![7; cells];
+        let (said, answer) = search_set(&bytes, 20, [&[0xff; 3]; 2], &[1; 3], [0, ALL], &mut list);
+        let places = (cells / 6).min(20) as u64;
+        assert_eq!((said, answer), (0, [places, 3 * places, places, u64::from(places < 20)]));
+        let cell = |i: usize| if i % 2 == 0 { i as u32 / 6 } else { i as u32 / 2 % 3 };
+        let written = 6 * places as usize;
+        assert!(list.iter().enumerate().all(|(i, &found)| found == if i < written { cell(i) } else { 7 }));
+    }
     for cells in 0..=70 {
         let mut list = vec![7; cells];
         let (said, answer) = search(&bytes, 64, &[0x80], 1, [3, 0, ALL], &mut list);
@@ -130,6 +175,7 @@ fn lengths() {
         assert_eq!(ffi::mark_sitting(&[], &[], &[], &mut [], &mut cells), want);
         let want = if answer < 4 { 101 } else { 0 };
         assert_eq!(ffi::search(&[], 0, &[0], &[0], 1, 0, 0, 0, &mut [], &mut [0; 16], &mut cells), want);
+        assert_eq!(ffi::search_set(&[], 0, &[0], &[0], &[1], 0, 0, &mut [], &mut cells), want);
     }
 }
 
@@ -142,6 +188,12 @@ fn nothing_lent() {
     assert_eq!(ffi::search(&[], 0, &[], &[], 1, 0, 0, 0, &mut [], &mut [], &mut [0; 4]), 4);
     assert_eq!(ffi::search(&[], 0, &[0], &[], 1, 0, 0, 0, &mut [], &mut [], &mut [0; 4]), 17);
     assert_eq!(ffi::search(&[], 0, &[0], &[0], 1, 0, 0, 0, &mut [], &mut [], &mut [0; 4]), 7);
+    assert_eq!(ffi::search_set(&[], 0, &[], &[], &[], 0, 0, &mut [], &mut []), 101);
+    assert_eq!(ffi::search_set(&[], 0, &[], &[], &[], 0, 0, &mut [], &mut [0; 4]), 18);
+    assert_eq!(ffi::search_set(&[], 0, &[], &[], &[0], 0, 0, &mut [], &mut [0; 4]), 3);
+    assert_eq!(ffi::search_set(&[], 0, &[], &[], &[1], 0, 0, &mut [], &mut [0; 4]), 4);
+    assert_eq!(ffi::search_set(&[], 0, &[0], &[], &[1], 0, 0, &mut [], &mut [0; 4]), 17);
+    assert_eq!(ffi::search_set(&[], 0, &[0], &[0], &[1], 0, 0, &mut [], &mut [0; 4]), 0);
     assert_eq!(ffi::scratch_cells(0, 0, &mut []), 101);
     assert_eq!(ffi::scratch_cells(5, 0, &mut []), 100);
     assert_eq!(ffi::scratch_cells(0, 0, &mut [0]), 3);
@@ -180,6 +232,19 @@ fn odd_addresses() {
             assert_eq!((at_odd.0 .1[1], list[0]), (1, 40));
         }
     }
+    // A set of two patterns that lie one after the other in the text too.
+    for from in 0..8 {
+        let (text, patterns) = (&bytes[from..from + 24], &bytes[from + 5..from + 11]);
+        for fixed in [[0xff; 13], [0xdf; 13]] {
+            let fixed = &fixed[from..from + 6];
+            let mut list = [0; 8];
+            let at_odd = (search_set(text, 190, [patterns, fixed], &[20, 24], [0, ALL], &mut list), list);
+            let (text, patterns, fixed) = (copy(from), copy(from)[5..11].to_vec(), fixed.to_vec());
+            let again = search_set(&text, 190, [&patterns, &fixed], &[20, 24], [0, ALL], &mut list);
+            assert_eq!(at_odd, (again, list));
+            assert_eq!((at_odd.0 .1, &list[..4]), ([171, 2, 171, 0], &[40, 0, 64, 1][..]));
+        }
+    }
 }
 
 /// Lengths above 2^32 are not cut down to 32 bits. The pages are never touched.
@@ -190,6 +255,9 @@ fn lengths_of_64_bits() {
     assert_eq!(search(&[0], 8, &long, 9, [0, 0, ALL], &mut []), (0, [0, 0, 0, 0]));
     assert_eq!(ffi::eight_bits(&long, 9, 1, &mut [0]), 0);
     assert_eq!(search_with(&[0], 8, [&[0, 0], &long], 9, [0, 0, ALL], &mut []), (0, [0, 0, 0, 0]));
+    assert_eq!(search_set(&long, 9, [&[0x80, 0x40]; 2], &[1, 2], [0, ALL], &mut []), (0, [9, 0, 9, 0]));
+    assert_eq!(search_set(&[0], 8, [&long, &[0; 3]], &[9, 8], [0, 0], &mut []), (0, [0, 0, 0, 2]));
+    assert_eq!(search_set(&[0], 8, [&[0; 3], &long], &[9, 8], [0, 0], &mut []), (0, [0, 0, 0, 2]));
     assert_eq!(ffi::hash_value(&long, &[0, 0], 9, 1, &mut [0]), 0);
     assert_eq!(ffi::hash_value(&[0, 0], &long, 9, 1, &mut [0]), 0);
     let mut answer = [0];
@@ -214,6 +282,16 @@ fn largest_text() {
         assert_eq!(search(&text, n, &ones, m, [method, from, ALL], &mut []).1, [0, 0, n - m, 1]);
         assert_eq!(search(&text, n, &ones, m, [method, from + 2, ALL], &mut []).0, 6);
     }
+    // A set, over the last hundred thousand places: one pattern at the last place, and a longer one nowhere.
+    text[(1 << 27) - 256..].fill(0);
+    text[(1 << 27) - 8..].fill(0xff);
+    let (runs, counts, mut list) = ([&[0xff; 264][..]; 2], [2_048, 64], [7; 3]);
+    let mut from = |mark: u64| (search_set(&text, n, runs, &counts, [mark as u32, ALL], &mut list), list);
+    assert_eq!(from(n - 100_000), ((0, [100_000 - 63, 1, n - 63, 0]), [(n - 64) as u32, 1, 7]));
+    assert_eq!((from(n - 63).0, from(n - 62).0), ((0, [0, 0, n - 63, 0]), (6, UNCHANGED)));
+    assert_eq!(search_set(&text, n, runs, &counts, [(n - 64) as u32, ALL], &mut [7]), (0, [0, 0, n - 64, 1]));
+    assert_eq!(search_set(&text, n, runs, &counts, [0, 1_000], &mut []), (0, [1_000, 0, 1_000, 2]));
+    assert_eq!(search_set(&text, n + 1, runs, &counts, [0, ALL], &mut []).0, 1);
     assert_eq!(search(&text, n + 1, &ones, 64, [0, 0, ALL], &mut []).0, 1);
     let mut answer = [0];
     assert_eq!((ffi::eight_bits(&text, n, (1 << 30) - 8, &mut answer), answer), (0, [0xff]));

@@ -1,6 +1,6 @@
 //! The table of refusals: each row's example gives its number, and the values beside it are accepted.
 use mitongory::marking::mark_sitting;
-use mitongory::{ffi, positions, search, Mark, Method, Pattern, Refusal, Scratch, Stop, Text};
+use mitongory::{ffi, positions, search, search_set, Mark, Method, Pattern, PatternSet, Refusal, Scratch, Stop, Text};
 
 /// A search from a mark with one budget step and no cell.
 fn call(n: u64, m: u64, method: Method, mark: u32) -> Result<Stop, Refusal> {
@@ -96,6 +96,62 @@ fn search_calls() {
     };
     assert_eq!((raw(65, 8, 8, 99), raw(65, 8, 9, 99), raw(65, 9, 8, 99), raw(64, 9, 7, 99)), (4, 4, 17, 17));
     assert_eq!((raw(65, 9, 9, 99), raw(65, 9, 9, 0), raw(64, 9, 8, 99), raw(64, 8, 9, 0)), (5, 5, 6, 7));
+}
+
+#[test]
+fn sets_of_patterns() {
+    let zeros = [0; 300];
+    let set = |counts: &[u64]| PatternSet::new(counts.iter().map(|&m| Pattern::new(&zeros, m).unwrap()));
+    let number = |counts: &[u64]| set(counts).map(|set| set.pattern_count()).map_err(Refusal::number);
+    assert_eq!((number(&[]), number(&[1; 65]), number(&[1; 200])), (Err(18), Err(18), Err(18)));
+    assert_eq!((number(&[1]), number(&[1; 64]), number(&[2_048; 64])), (Ok(1), Ok(64), Ok(64)));
+    let at = |n: u64, counts: &[u64], mark| {
+        let answer = search_set(Text::new(&zeros, n).unwrap(), &set(counts).unwrap(), Mark::at(mark), 1, &mut []);
+        answer.map(|answer| answer.stop).map_err(Refusal::number)
+    };
+    // The mark goes by the shortest pattern, in any order.
+    for counts in [&[10, 36, 37][..], &[37, 10, 36], &[36, 2_048, 10]] {
+        assert_eq!(
+            (at(36, counts, 27), at(36, counts, 28), at(36, counts, u32::MAX)),
+            (Ok(Stop::Done), Err(6), Err(6))
+        );
+        assert_eq!(
+            (at(36, counts, 26), at(9, counts, 0), at(9, counts, 1)),
+            (Ok(Stop::Full(26)), Ok(Stop::Done), Err(6))
+        );
+    }
+    // Texts and patterns that are not good by themselves need the raw call, as do runs that end early.
+    let raw = |n: u64, text: usize, runs: [usize; 2], counts: &[u64], mark: u32| {
+        let (text, [patterns, fixed]) = (&zeros[..text], runs.map(|len| &zeros[..len]));
+        ffi::search_set(text, n, patterns, fixed, counts, mark, 1, &mut [], &mut [0; 4])
+    };
+    assert_eq!((raw((1 << 30) + 1, 0, [0, 0], &[], 99), raw(9, 1, [0, 0], &[], 99)), (1, 2));
+    assert_eq!(
+        (raw(9, 2, [0, 0], &[], 99), raw(9, 2, [0, 0], &[0; 65], 99), raw(9, 2, [0, 0], &[0; 64], 99)),
+        (18, 18, 3)
+    );
+    assert_eq!(
+        (raw(9, 2, [0, 0], &[2_049], 99), raw(9, 2, [0, 0], &[1, 0], 99), raw(9, 2, [1, 0], &[1, 0], 99)),
+        (3, 4, 17)
+    );
+    assert_eq!(
+        (raw(9, 2, [1, 1], &[1, 0], 99), raw(9, 2, [1, 1], &[1, 1], 99), raw(9, 2, [2, 1], &[1, 1], 99)),
+        (3, 4, 17)
+    );
+    assert_eq!(
+        (raw(9, 2, [2, 2], &[9, 1], 99), raw(9, 2, [1, 9], &[9, 0], 99), raw(9, 2, [9, 1], &[9, 0], 99)),
+        (4, 4, 17)
+    );
+    // All of one pattern come before those of the next: a short second run of the first before a bad length.
+    assert_eq!((raw(9, 2, [9, 1], &[9, 2_049], 99), raw(9, 2, [9, 2], &[9, 2_049], 99)), (17, 3));
+    assert_eq!(
+        (raw(9, 2, [64, 63], &[8; 64], 99), raw(9, 2, [63, 63], &[8; 64], 99), raw(9, 2, [64; 2], &[8; 64], 99)),
+        (17, 4, 6)
+    );
+    assert_eq!(
+        (raw(9, 2, [64; 2], &[8; 64], 3), raw(9, 2, [64; 2], &[8; 64], 2), raw(9, 2, [9; 2], &[9, 8, 7], 3)),
+        (6, 0, 0)
+    );
 }
 
 #[test]

@@ -33,6 +33,11 @@ pub fn places(n: usize, m: usize) -> usize {
     }
 }
 
+/// The pattern w occurs in the text t at place s.
+pub fn occurs(t: &[bool], w: &[Option<bool>], s: usize) -> bool {
+    s < places(t.len(), w.len()) && (0..w.len()).all(|j| agrees(w[j], t[s + j]))
+}
+
 /// A text and a pattern; a bit of the pattern that is none is wild.
 pub struct Pair {
     pub t: Vec<bool>,
@@ -87,15 +92,15 @@ pub fn least_move(w: &[Option<bool>], eight: &[bool], from: usize) -> usize {
 
 /// What a call answers.
 #[derive(Debug, PartialEq)]
-pub struct Outcome {
+pub struct Outcome<T = u32> {
     pub steps: u64,
-    pub written: Vec<u32>,
+    pub written: Vec<T>,
     pub mark: u64,
     /// 0 done, 1 full, 2 spent.
     pub stop: u64,
 }
 
-impl Outcome {
+impl<T> Outcome<T> {
     pub fn cells(&self) -> [u64; 4] {
         [self.steps, self.written.len() as u64, self.mark, self.stop]
     }
@@ -108,7 +113,7 @@ impl Pair {
 
     /// The pattern occurs at place s.
     pub fn occurs(&self, s: usize) -> bool {
-        s < self.places() && (0..self.w.len()).all(|j| agrees(self.w[j], self.t[s + j]))
+        occurs(&self.t, &self.w, s)
     }
 
     pub fn occurrences(&self) -> Vec<u32> {

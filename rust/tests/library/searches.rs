@@ -150,7 +150,7 @@ impl Drawn {
     }
 }
 
-fn drawn_bits(random: &Random, count: usize) -> Vec<bool> {
+pub fn drawn_bits(random: &Random, count: usize) -> Vec<bool> {
     match random.below(4) {
         0 => {
             let period: Vec<bool> = (0..1 + random.below(9)).map(|_| random.once_in(2)).collect();
@@ -164,7 +164,7 @@ fn drawn_bits(random: &Random, count: usize) -> Vec<bool> {
 }
 
 /// The bits packed, with up to two bytes more, and with other bits after the last one.
-fn packed(random: &Random, bits: &[bool]) -> Vec<u8> {
+pub fn packed(random: &Random, bits: &[bool]) -> Vec<u8> {
     let mut bytes = bits.iter().copied().collect::<Bits>().bytes().to_vec();
     if let (Some(last), spare @ 1..) = (bytes.last_mut(), (8 - bits.len() % 8) % 8) {
         *last |= u8::draw(random) & ((1 << spare) - 1);
@@ -193,7 +193,7 @@ fn drawn_with(random: &Random, n: usize, fixed: &[bool]) -> Drawn {
 }
 
 /// A pattern's bits packed, with any value at the wild ones.
-fn any_at_wild(random: &Random, w: &[Option<bool>]) -> Vec<u8> {
+pub fn any_at_wild(random: &Random, w: &[Option<bool>]) -> Vec<u8> {
     let bits: Vec<bool> = w.iter().map(|bit| bit.unwrap_or_else(|| random.once_in(2))).collect();
     packed(random, &bits)
 }
