@@ -64,8 +64,8 @@ pub(crate) fn judge(dir: &Path, target: &str, version: &str) -> Result<(), Strin
     Ok(())
 }
 
-/// The symbols in an archive's bytes that begin with a prefix. Each is taken whole, so that `mitongory_version_0_7` is not
-/// found in `mitongory_version_0_70`, and the name of a section, in which a point comes before it, is none.
+/// The symbols in an archive's bytes that begin with a prefix. Each is taken whole, so that `mitongory_version_0_7` is
+/// not found in `mitongory_version_0_70`, and the name of a section, in which a point comes before it, is none.
 fn symbols(archive: &[u8], prefix: &str) -> BTreeSet<String> {
     let begins = |at: &usize| archive[*at..].starts_with(prefix.as_bytes()) && (*at == 0 || archive[*at - 1] != b'.');
     let symbol = |at: usize| {

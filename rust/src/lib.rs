@@ -3,8 +3,8 @@
 //! The crate lists every place where a *pattern* of 1 to 2,048 bits occurs in a *text* of up to 2^30 bits. A place is a
 //! bit number: a pattern may occur from any bit on, not only where a byte begins, and occurrences may overlap. Bits of a
 //! pattern may be wild, and then any bit of the text will do there. There are five methods of searching, which find the
-//! same occurrences; up to 64 patterns can be searched for in one pass; and there is a file format for lists of positions.
-//! Such lists can be marked against a key.
+//! same occurrences. Up to 64 patterns can be searched for in one pass. There is a file format for lists of positions,
+//! and such lists can be marked against a key.
 //!
 //! The work is done by a library in which every function is proved to meet its contract. It is linked as a static
 //! archive. This crate gives its calls Rust types and adds no rule of its own. It has no dependencies.
@@ -128,8 +128,8 @@
 //!
 //! # A set of patterns
 //!
-//! A [`PatternSet`] is 1 to 64 patterns, of any lengths, that are searched for together in one pass. Each has a number, from
-//! 0 on. [`SetOccurrences`] is the iterator over all places at which one of them occurs, each with the number:
+//! A [`PatternSet`] is 1 to 64 patterns, of any lengths, that are searched for together in one pass. Each has a number,
+//! from 0 on. [`SetOccurrences`] is the iterator over all places at which one of them occurs, each with the number:
 //!
 //! ```
 //! use mitongory::{Bits, PatternSet, SetOccurrences, WildBits};
@@ -140,13 +140,13 @@
 //! let set = PatternSet::new(words.iter().map(WildBits::pattern).collect::<Result<Vec<_>, _>>()?)?;
 //!
 //! let found: Vec<(u32, usize)> = SetOccurrences::new(long.text()?, &set).collect();
-//! assert_eq!(found, [(8, 2), (11, 0), (11, 1), (22, 1), (24, 2)]);
+//! assert_eq!(found, [(8, 2), (11, 0), (11, 1), (22, 1), (23, 2)]);
 //! # Ok(())
 //! # }
 //! ```
 //!
-//! [`search_set`] is the call under it, with a mark, a budget and a list. An occurrence takes two cells of the list, its place
-//! and its number, and those at one place are all written or none is. It takes no scratch.
+//! [`search_set`] is the call under it, with a mark, a budget and a list. An occurrence takes two cells of the list, its
+//! place and its number, and those at one place are all written or none is. It takes no scratch.
 //!
 //! # Refusals
 //!

@@ -8,8 +8,8 @@ use std::fmt;
 /// Patterns that are searched for together, 1 to 64 of them ([`PatternSet::MOST`]). Each has a *number*, counted from 0
 /// in the order in which they were given.
 ///
-/// They may have any lengths and wild bits, and there may be equal ones. [`SetOccurrences`](crate::SetOccurrences) is the
-/// iterator over all places at which one of them occurs, and [`search_set`](crate::search_set) the call under it.
+/// They may have any lengths and wild bits, and there may be equal ones. [`SetOccurrences`](crate::SetOccurrences) is
+/// the iterator over all places at which one of them occurs, and [`search_set`](crate::search_set) the call under it.
 ///
 /// ```
 /// use mitongory::{PatternSet, SetOccurrences, WildBits};
@@ -27,8 +27,8 @@ use std::fmt;
 /// # }
 /// ```
 ///
-/// The set owns its bits. It lays them out as the library takes them: in one run of bytes, in which each pattern begins on
-/// the byte after the one before. Two sets are equal just if they have equal patterns, in the same order.
+/// The set owns its bits. It lays them out as the library takes them: in one run of bytes, in which each pattern begins
+/// on the byte after the one before. Two sets are equal just if they have equal patterns, in the same order.
 ///
 /// ```
 /// use mitongory::{Pattern, PatternSet};
@@ -42,8 +42,8 @@ use std::fmt;
 /// ```
 #[derive(Clone, PartialEq, Eq, Hash)]
 pub struct PatternSet {
-    /// The bits of all patterns, with zeros in place of the wild ones and after the last one of each, so that the derived
-    /// `Eq` and `Hash` see the fixed bits alone.
+    /// The bits of all patterns, with zeros in place of the wild ones and after the last one of each, so that the
+    /// derived `Eq` and `Hash` see the fixed bits alone.
     bytes: Vec<u8>,
     /// Laid out alike, 1 for fixed and 0 for wild.
     fixed: Vec<u8>,
@@ -121,8 +121,8 @@ impl PatternSet {
         })
     }
 
-    /// The bytes of all patterns, one pattern after the other, with zeros in place of the wild bits and after the last bit
-    /// of each.
+    /// The bytes of all patterns, one pattern after the other, with zeros in place of the wild bits and after the last
+    /// bit of each.
     ///
     /// ```
     /// use mitongory::{Pattern, PatternSet};

@@ -4,10 +4,10 @@ use std::fmt;
 
 /// Why a call was refused. A refused call changes nothing: no cell, no byte, no mark.
 ///
-/// A search is refused with the first of 1, 2, 3, 4, 17, 5, 6 and 7 that applies, a search for a set of patterns with the
-/// first of 1, 2, 18, then 3, 4 and 17 for each pattern in turn, and 6, a file with its first fault from front to back, 10
-/// to 13, or a good one with 14 where there are fewer cells than its count, a sitting with the first of 15, 16, 8 and 9.
-/// Where none applies, the call is accepted.
+/// A search is refused with the first of 1, 2, 3, 4, 17, 5, 6 and 7 that applies, and one for a set of patterns with the
+/// first of 1, 2, 18, then 3, 4 and 17 for each pattern in turn, and then 6; a file with its first fault from front to
+/// back, 10 to 13, or a good one with 14 where there are fewer cells than its count; a sitting with the first of 15, 16,
+/// 8 and 9. Where none applies, the call is accepted.
 ///
 /// ```
 /// use mitongory::{Pattern, Refusal};

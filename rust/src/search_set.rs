@@ -6,23 +6,23 @@ use crate::text::Text;
 use crate::{call, ffi};
 
 /// Searches for all patterns of a set in one pass: makes at most `budget` steps from the mark on and writes the
-/// occurrences to the front of the list, as pairs of a place and the number of the pattern that occurs there. They rise by
-/// place, and at one place by number. A pair takes two cells, the place first, and [`Answer::occurrences`] counts pairs. The
-/// other cells of the list stay as they were.
+/// occurrences to the front of the list, as pairs of a place and the number of the pattern that occurs there. They rise
+/// by place, and at one place by number. A pair takes two cells, the place first, and [`Answer::occurrences`] counts
+/// pairs. The other cells of the list stay as they were.
 ///
-/// Mark, budget and ways to stop are those of [`search`](crate::search()). A step decides one place for all patterns and
-/// moves the mark by one. The number of places is that of the shortest pattern, `n - m + 1` for `n` bits of text and `m` of
-/// pattern, or 0 if it is longer than the text. The call takes no scratch, and it allocates and keeps nothing. Each call
-/// makes its tables anew.
+/// Mark, budget and ways to stop are those of [`search`](crate::search()). A step decides one place for all patterns
+/// and moves the mark by one. The number of places is that of the shortest pattern, `n - m + 1` for `n` bits of text
+/// and `m` of pattern, or 0 if it is longer than the text. The call takes no scratch, and it allocates and keeps
+/// nothing. Each call makes its tables anew.
 ///
 /// The occurrences at one place are all written or none is: where they do not all find cells, the call stops with
-/// [`Stop::Full`](crate::Stop::Full) and the mark at that place, and that step is not counted. Going on with a list that is
-/// too short for the place would never end; two cells for each pattern of the set are enough for every place. With so many
-/// and a budget of one step or more, a call moves the mark or is done. An odd cell at the end is no room.
+/// [`Stop::Full`](crate::Stop::Full) and the mark at that place, and that step is not counted. Going on with a list
+/// that is too short for the place would never end; two cells for each pattern of the set are enough for every place.
+/// With so many and a budget of one step or more, a call moves the mark or is done. An odd cell at the end is no room.
 ///
-/// It is proved of every list of such calls on one text and one set, of which the first begins at [`Mark::START`] and each
-/// goes on from the mark before it: the pairs that they wrote, joined, are all occurrences before the last mark, each once,
-/// whatever the budgets and lists are. With one pattern the places, steps, marks and stops are those of
+/// It is proved of every list of such calls on one text and one set, of which the first begins at [`Mark::START`] and
+/// each goes on from the mark before it: the pairs that they wrote, joined, are all occurrences before the last mark,
+/// each once, whatever the budgets and lists are. With one pattern the places, steps, marks and stops are those of
 /// [`Method::Plain`](crate::Method::Plain) on half as many cells, rounded down.
 ///
 /// ```

@@ -8,11 +8,11 @@ use crate::text::Text;
 use std::fmt;
 use std::iter::FusedIterator;
 
-/// An iterator over all occurrences of the patterns of a set: pairs of a place and the number of the pattern that occurs
-/// there, rising by place, and at one place by number.
+/// An iterator over all occurrences of the patterns of a set: pairs of a place and the number of the pattern that
+/// occurs there, rising by place, and at one place by number.
 ///
-/// It calls [`search_set`] with a list of its own, which has room for all occurrences at one place, and goes on from the
-/// mark. That none is missing and none comes twice follows from what is proved of such calls.
+/// It calls [`search_set`] with a list of its own, which has room for all occurrences at one place, and goes on from
+/// the mark. That none is missing and none comes twice follows from what is proved of such calls.
 ///
 /// ```
 /// use mitongory::{Pattern, PatternSet, SetOccurrences, Text};
@@ -81,8 +81,8 @@ impl<'a> SetOccurrences<'a> {
         Ok(SetOccurrences { text, set, calls: Calls::after(answer) })
     }
 
-    /// Where the iterator is: no occurrence before this mark is still to be given, and none after its place was given. Of
-    /// those at the place itself some may have been given. An iterator that resumes from the mark gives all of them.
+    /// Where the iterator is: no occurrence before this mark is still to be given, and none after its place was given.
+    /// Of those at the place itself some may have been given. An iterator that resumes from the mark gives all of them.
     ///
     /// ```
     /// use mitongory::{Mark, Pattern, PatternSet, SetOccurrences, Text};

@@ -1,6 +1,6 @@
-//! The crate and the library under it, held to the rules read bit by bit (`rules` and, for sets of patterns, `set_rules`),
-//! to a codec written from the file's rules (`codec`) and to marking by sets (`sets`). Every draw comes from one seed, which
-//! is printed; `MITONGORY_SEED` sets another.
+//! The crate and the library under it, held to the rules read bit by bit (`rules` and, for sets of patterns,
+//! `set_rules`), to a codec written from the file's rules (`codec`) and to marking by sets (`sets`). Every draw comes
+//! from one seed, which is printed; `MITONGORY_SEED` sets another.
 mod archive;
 mod boundary;
 mod buffers;

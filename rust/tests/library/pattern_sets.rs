@@ -79,8 +79,8 @@ impl Caller {
     }
 }
 
-/// A drawn text and a drawn set, packed. Bits after the last one of the text and of each pattern have any content, and so
-/// have the wild bits of the patterns and what comes after the last pattern.
+/// A drawn text and a drawn set, packed. Bits after the last one of the text and of each pattern have any content, and
+/// so have the wild bits of the patterns and what comes after the last pattern.
 pub struct Drawn {
     text: Vec<u8>,
     patterns: Vec<u8>,
@@ -127,8 +127,8 @@ fn drawn_word(random: &Random, t: &[bool]) -> Vec<Option<bool>> {
     masked(&w, &second_runs::drawn(random, m))
 }
 
-/// A set of patterns. Now and then one is equal to an earlier one, begins it, goes on after it, or differs from it in one
-/// bit.
+/// A set of patterns. Now and then one is equal to an earlier one, begins it, goes on after it, or differs from it in
+/// one bit.
 fn drawn_words(random: &Random, t: &[bool], count: usize) -> Vec<Vec<Option<bool>>> {
     let mut words: Vec<Vec<Option<bool>>> = Vec::new();
     while words.len() < count {
@@ -206,7 +206,7 @@ fn check_drawn(random: &Random, x: &Drawn, calls: usize, stops: &mut [usize; 3])
 fn drawn_sets() {
     let random = Random::of("drawn_sets");
     let (mut stops, mut sets) = ([0; 3], BTreeMap::new());
-    for _ in 0..8_000 {
+    for _ in 0..6_000 {
         let count = random.one_of(&[1, 2, 3, 8, 1 + random.below(64), 63, 64]);
         let n = random.below(random.one_of(&[20, 80, 300]));
         *sets.entry(count).or_insert(0) += 1;
@@ -259,8 +259,8 @@ fn every_small_set() {
     assert!(words.len() == 12 && texts.len() == 31 && calls > 400_000);
 }
 
-/// A pattern has no hit at or past its own E, whatever the bytes have after the last bit of the text: of the patterns of 1
-/// to 64 ones, those occur at a place that the bits after it have room for.
+/// A pattern has no hit at or past its own E, whatever the bytes have after the last bit of the text: of the patterns
+/// of 1 to 64 ones, those occur at a place that the bits after it have room for.
 #[test]
 fn each_pattern_to_its_own_end() {
     let random = Random::of("each_pattern_to_its_own_end");
@@ -355,8 +355,8 @@ fn pairs(list: &[u32], occurrences: usize) -> Vec<Hit> {
     list[..2 * occurrences].chunks_exact(2).map(|pair| [pair[0], pair[1]]).collect()
 }
 
-/// Calls with any budget and list from mark 0 on, each from the mark left: their pairs, joined, are the hits before the last
-/// mark, and they end.
+/// Calls with any budget and list from mark 0 on, each from the mark left: their pairs, joined, are the hits before the
+/// last mark, and they end.
 #[test]
 fn joined_pairs() {
     let random = Random::of("joined_pairs");
@@ -441,8 +441,8 @@ fn another_order() {
     }
 }
 
-/// A set lays out its runs: the bytes of each pattern after those before, with zeros in place of the wild bits and after the
-/// last one; and it gives its patterns back.
+/// A set lays out its runs: the bytes of each pattern after those before, with zeros in place of the wild bits and
+/// after the last one; and it gives its patterns back.
 #[test]
 fn runs_of_a_set() {
     let random = Random::of("runs_of_a_set");
@@ -494,7 +494,8 @@ fn equality_of_sets() {
     assert!(a.bytes() == b.bytes() && a != b);
 }
 
-/// No pattern, one, the most and one more; and patterns without end, of which no more are asked for than it takes to refuse.
+/// No pattern, one, the most and one more; and patterns without end, of which no more are asked for than it takes to
+/// refuse.
 #[test]
 fn numbers_of_patterns() {
     let ones: Bits = "111".parse().unwrap();

@@ -51,13 +51,13 @@ fn all_at_every_place() {
     }
 }
 
-/// Bounded calls with any budgets give the same occurrences. At each moment all before the mark are given and none after
-/// its place, and another iterator that goes on from it gives all from that place on.
+/// Bounded calls with any budgets give the same occurrences. At each moment all before the mark are given and none
+/// after its place, and another iterator that goes on from it gives all from that place on.
 #[test]
 fn of_sets_within_budgets() {
     let random = Random::of("of_sets_within_budgets");
     let (mut worked, mut resumed, mut within_a_place) = (0, 0, 0);
-    for _ in 0..300 {
+    for _ in 0..150 {
         let (n, count) = (random.below(500), random.one_of(&[1, 2, 3, 10, 64]));
         let x = drawn(&random, n, count);
         let (text, set) = (x.text(), x.set());
@@ -92,7 +92,9 @@ fn of_sets_within_budgets() {
         assert_eq!(given, want);
         assert_eq!(occurrences.mark(), Mark::at(x.rules.places() as u32));
     }
-    println!("of_sets_within_budgets: {worked} spent budgets, resumed {resumed} times, {within_a_place} times within a place");
+    println!(
+        "of_sets_within_budgets: {worked} spent budgets, resumed {resumed} times, {within_a_place} marks in a place"
+    );
     assert!(worked > 1_000 && resumed > 1_000 && within_a_place > 1_000);
 }
 

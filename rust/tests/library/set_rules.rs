@@ -34,8 +34,8 @@ impl TextAndSet {
         self.at[from..to].concat()
     }
 
-    /// The call's loop. A step decides one place. If its hits don't all fit, none of them is written, and the step is not
-    /// counted.
+    /// The call's loop. A step decides one place. If its hits don't all fit, none of them is written, and the step is
+    /// not counted.
     pub fn run(&self, mark: usize, budget: usize, cells: usize) -> Outcome<Hit> {
         let (mut mark, mut steps, mut written) = (mark, 0, Vec::new());
         while mark < self.places() && steps < budget {
