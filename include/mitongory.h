@@ -1,6 +1,6 @@
 /*
- * Mitongory: exact search for a pattern of bits, some of which may be wild, in a text of packed bits, by five methods, a
- * file format for lists of positions, and the marking of such lists against a key.
+ * Mitongory: exact search for a pattern of bits, some of which may be wild, in a text of packed bits, by five methods, or
+ * for a set of patterns in one pass, a file format for lists of positions, and the marking of such lists against a key.
  *
  * These are the calls of the static library libmitongory.a for x86-64 Linux, which needs the C library and nothing else.
  * `make lib` builds it and `make install` installs it. A program is then built by
@@ -66,7 +66,8 @@
  * Patterns. A pattern of m bits is two runs of bytes, both packed so: `pattern` has the values of the bits, and `fixed` has
  * a 1 for each bit that is fixed and a 0 for each that is wild. A fixed bit agrees with its own value only, a wild bit with
  * 0 and with 1. The value that `pattern` has at a wild bit never matters. For a pattern without wild bits `fixed` is bytes
- * of 255.
+ * of 255. The patterns of a set lie one after the other in two such runs, each from the byte after the last one of the
+ * pattern before it on: a pattern of m bits takes ceil(m / 8) bytes of both.
  */
 #ifndef MITONGORY_H
 #define MITONGORY_H
@@ -81,10 +82,10 @@ extern "C" {
 /* The version of this header. */
 #define MITONGORY_VERSION_MAJOR 0
 #define MITONGORY_VERSION_MINOR 7
-#define MITONGORY_VERSION_PATCH 0
+#define MITONGORY_VERSION_PATCH 1
 #define MITONGORY_VERSION_NUMBER \
     (MITONGORY_VERSION_MAJOR * 10000 + MITONGORY_VERSION_MINOR * 100 + MITONGORY_VERSION_PATCH)
-#define MITONGORY_VERSION "0.7.0"
+#define MITONGORY_VERSION "0.7.1"
 
 /*
  * The version of the library, as a number. The name holds the version of the interface, so that a program that was
@@ -107,10 +108,13 @@ static uint32_t (*const mitongory_version_needed)(void) __attribute__((used)) = 
 
 /*
  * The cells in `scratch` that are enough for a search by every method, whatever the pattern: the largest figure that
- * mitongory_scratch_cells tells. And the cells that a search needs in `answer`.
+ * mitongory_scratch_cells tells. And the cells that a search, for a pattern or for a set, needs in `answer`.
  */
 #define MITONGORY_SCRATCH_CELLS 4222
 #define MITONGORY_ANSWER_CELLS 4
+
+/* The most patterns of a set. */
+#define MITONGORY_MOST_PATTERNS 64
 
 /*
  * The most sheets of a sitting, and the cells that it needs in `report` for each sheet, and in `answer`. All other calls
@@ -119,13 +123,13 @@ static uint32_t (*const mitongory_version_needed)(void) __attribute__((used)) = 
 #define MITONGORY_SHEETS 256
 #define MITONGORY_SHEET_CELLS 3
 
-/* What a call returns. 1 to 17 are the numbers of the requirements; 100 and 101 exist only in this interface. */
+/* What a call returns. 1 to 18 are the numbers of the requirements; 100 and 101 exist only in this interface. */
 enum mitongory_result {
     MITONGORY_OK = 0,
     MITONGORY_TEXT_TOO_LONG = 1,         /* n above 2^30 */
     MITONGORY_TEXT_BYTES_MISSING = 2,    /* fewer text bytes than n bits take */
     MITONGORY_PATTERN_LENGTH = 3,        /* m is 0 or above 2048 */
-    MITONGORY_PATTERN_BYTES_MISSING = 4, /* fewer pattern bytes than m bits take */
+    MITONGORY_PATTERN_BYTES_MISSING = 4, /* fewer pattern bytes than m bits take; a set's run ends before a pattern does */
     MITONGORY_PATTERN_UNFIT = 5,         /* m below 8 for hash and H, below 15 for skip, above 64 for tail */
     MITONGORY_BEYOND_END = 6,            /* mark above the number of places; place + 8 above n */
     MITONGORY_SCRATCH_TOO_SHORT = 7,     /* fewer cells than the method takes for m, see mitongory_scratch_cells */
@@ -138,7 +142,8 @@ enum mitongory_result {
     MITONGORY_CELLS_MISSING = 14,        /* fewer cells than the file's count, and the file is good */
     MITONGORY_TOO_MANY_SHEETS = 15,      /* more than MITONGORY_SHEETS sheets */
     MITONGORY_COUNTS_DIFFER = 16,        /* the counts of the sheets do not add up to sheets_len */
-    MITONGORY_FIXED_BYTES_MISSING = 17,  /* fewer bytes of `fixed` than m bits take */
+    MITONGORY_FIXED_BYTES_MISSING = 17,  /* the same of `fixed` */
+    MITONGORY_SET_SIZE = 18,             /* no patterns, or more than MITONGORY_MOST_PATTERNS */
     MITONGORY_UNKNOWN_METHOD = 100,      /* the method is none of enum mitongory_method */
     MITONGORY_ANSWER_CELLS_MISSING = 101 /* fewer answer cells than the call needs */
 };
@@ -168,6 +173,7 @@ static inline const char *mitongory_result_text(uint32_t result)
     case MITONGORY_TOO_MANY_SHEETS: return "There are more than 256 sheets.";
     case MITONGORY_COUNTS_DIFFER: return "The counts of the sheets do not add up to the number of their positions.";
     case MITONGORY_FIXED_BYTES_MISSING: return "The run of fixed bits has fewer bytes than the pattern's bits take.";
+    case MITONGORY_SET_SIZE: return "There are no patterns, or more than 64.";
     case MITONGORY_UNKNOWN_METHOD: return "The method is none of the five.";
     case MITONGORY_ANSWER_CELLS_MISSING: return "There are fewer answer cells than the call needs.";
     default: return "No call returns this number.";
@@ -183,10 +189,10 @@ enum mitongory_method {
     MITONGORY_TAIL = 4 /* for patterns of 64 bits or fewer */
 };
 
-/* The answer cells of an accepted search. */
+/* The answer cells of an accepted search, for a pattern or for a set. */
 enum mitongory_answer {
     MITONGORY_STEPS = 0,       /* steps made, at most the budget; a step that a full list cuts is not counted */
-    MITONGORY_OCCURRENCES = 1, /* how many places were written to the front of the list */
+    MITONGORY_OCCURRENCES = 1, /* how many places, or pairs for a set, were written to the front of the list */
     MITONGORY_MARK = 2,        /* the first place that is not yet decided: where the next call goes on */
     MITONGORY_STOP = 3         /* one of enum mitongory_stop */
 };
@@ -194,7 +200,7 @@ enum mitongory_answer {
 /* How an accepted search stopped. */
 enum mitongory_stop {
     MITONGORY_DONE = 0, /* every place is decided */
-    MITONGORY_FULL = 1, /* a further occurrence is at the mark, and the list had no free cell for it */
+    MITONGORY_FULL = 1, /* a further occurrence is at the mark, and the list had no free cell for it; for a set, not for all */
     MITONGORY_SPENT = 2 /* the budget of steps is spent */
 };
 
@@ -239,6 +245,39 @@ uint32_t mitongory_search(const uint8_t *text, size_t text_len, uint64_t n,
                           uint32_t *list, size_t list_len,
                           uint64_t *scratch, size_t scratch_len,
                           uint64_t *answer, size_t answer_len);
+
+/*
+ * Lists, from the mark on, the occurrences of up to MITONGORY_MOST_PATTERNS patterns in the first n bits of `text`, in one
+ * pass, as far as the budget of steps and the cells of the list go. An occurrence is as for a search. It is listed as a
+ * pair of its place and the pattern's number, counted from 0, which takes two cells, the place first. The pairs rise by
+ * place, and at one place by number. Two patterns that are equal have the same places, each under its own number. Mark,
+ * budget and the ways to stop are those of a search. A pattern of m bits has n - m + 1 places, or none where m is above n;
+ * the set has as many as the one with the most of them, the shortest.
+ *
+ * A step decides one place for all patterns, and moves the mark by one. Where the occurrences of a place do not all find
+ * free cells, none of them is written, the step is not counted, and the call stops with MITONGORY_FULL and the mark at that
+ * place. So the steps of all calls from mark 0 are together at most the last mark. A list of two cells for each pattern
+ * always has room for one place, so that a call with a budget of one step or more moves the mark or is done; with fewer
+ * cells, going on may never end.
+ *
+ *   text       packed bits, as `patterns` and `fixed`; there may be more bytes of each than the bit counts need, and what is
+ *              in them never matters
+ *   patterns   the values of the bits of all patterns, each pattern from the byte after the one before it on
+ *   fixed      1 for a fixed bit and 0 for a wild one, laid out as `patterns`
+ *   counts     how many bits each pattern has; counts_len is the number of patterns
+ *   list       any length; the pairs go to its front, and the other cells stay. An odd cell at its end is not used.
+ *   answer     at least MITONGORY_ANSWER_CELLS cells: steps, occurrences (pairs), mark, stop
+ *
+ * Returns 0, or the first of 101, 1, 2, 18; then 3, 4, 17 for each pattern in turn; then 6 that applies. A pattern gets 4
+ * or 17 where that run ends before the last byte of the pattern.
+ */
+uint32_t mitongory_search_set(const uint8_t *text, size_t text_len, uint64_t n,
+                              const uint8_t *patterns, size_t patterns_len,
+                              const uint8_t *fixed, size_t fixed_len,
+                              const uint64_t *counts, size_t counts_len,
+                              uint32_t mark, uint32_t budget,
+                              uint32_t *list, size_t list_len,
+                              uint64_t *answer, size_t answer_len);
 
 /*
  * How many cells of scratch a search by the method takes for a pattern of m bits, whichever of them are wild. answer[0] is

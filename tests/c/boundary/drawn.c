@@ -10,33 +10,14 @@
 #include "second_run.h"
 
 enum { ROUNDS = 200 * WAYS, MOST_BYTES = MOST_PLACES / 8, SHORT_PATTERN = 24, LONG_PATTERN = 200 };
-enum { MOST_PERIOD = 11, FEW_CELLS = 4, FEW_STEPS = 6 };
+enum { FEW_CELLS = 4, FEW_STEPS = 6 };
 enum { ZEROS_M = 16, ZEROS_N = 40, ZEROS_BYTES = ZEROS_N / 8 };
-
-/* Every third byte or so is any byte, the others alternate. */
-static uint8_t draw_byte(void)
-{
-    return (uint8_t)(draw(3) == 0 ? draw(256) : 0x55);
-}
-
-/* A text whose bits repeat, now and then with a wrong one. */
-static void draw_periodic(uint8_t *text)
-{
-    const uint64_t period = 1 + draw(MOST_PERIOD), block = draw(1 << MOST_PERIOD);
-    uint64_t i;
-    memset(text, 0, MOST_BYTES);
-    for (i = 0; i < 8 * MOST_BYTES; i++)
-        set_bit(text, i, ((block >> i % period) & 1u) ^ (draw(40) == 0));
-}
 
 /* A pattern that occurs in the text from a drawn place on. */
 static void take_from_text(const struct search *q, uint8_t *pattern)
 {
-    const uint64_t from = draw(q->n - q->m + 1);
-    uint64_t i;
     memset(pattern, 0, MOST_BYTES);
-    for (i = 0; i < q->m; i++)
-        set_bit(pattern, i, bit(q->text, from + i));
+    copy_bits(q->text, draw(q->n - q->m + 1), q->m, pattern);
 }
 
 /* A call for all places, and the same with another pattern that agrees with the same texts. */
@@ -80,7 +61,7 @@ static void one_round(uint32_t round)
         pattern[i] = draw_byte();
     }
     if (draw(3) == 0)
-        draw_periodic(text);
+        draw_periodic(text, MOST_BYTES);
     q.text = text, q.n = draw(8 * MOST_BYTES + 1), q.text_len = (size_t)(q.n + 7) / 8;
     q.pattern = pattern, q.m = 1 + draw(draw(2) == 0 ? SHORT_PATTERN : LONG_PATTERN);
     q.fixed = fixed, q.pattern_len = q.fixed_len = (size_t)(q.m + 7) / 8;

@@ -1,4 +1,7 @@
-/* What the header itself defines: the version, the numbers of a search and of a sitting, and a sentence for every result. */
+/*
+ * What the header itself defines: the version, the numbers of a search, of a set and of a sitting, and a sentence for every
+ * result.
+ */
 #include <mitongory.h>
 #include <stdio.h>
 #include <string.h>
@@ -26,6 +29,7 @@ static const uint32_t results[] = {
     MITONGORY_TOO_MANY_SHEETS,
     MITONGORY_COUNTS_DIFFER,
     MITONGORY_FIXED_BYTES_MISSING,
+    MITONGORY_SET_SIZE,
     MITONGORY_UNKNOWN_METHOD,
     MITONGORY_ANSWER_CELLS_MISSING};
 
@@ -35,7 +39,7 @@ static void version(void)
 {
     char text[40];
     about("version");
-    check(MITONGORY_VERSION_NUMBER == 700, "number of the header");
+    check(MITONGORY_VERSION_NUMBER == 701, "number of the header");
     check(mitongory_version() == MITONGORY_VERSION_NUMBER, "number of the library");
     check(mitongory_version_0_7() == mitongory_version(), "the two functions");
     snprintf(text, sizeof text, "%d.%d.%d", MITONGORY_VERSION_MAJOR, MITONGORY_VERSION_MINOR, MITONGORY_VERSION_PATCH);
@@ -48,6 +52,13 @@ static void cells_of_a_search(void)
     check(MITONGORY_SCRATCH_CELLS == 4222, "scratch");
     check(MITONGORY_ANSWER_CELLS == 4, "answer");
     check(MITONGORY_FIXED_BYTES_MISSING == 17, "refusal of the second run");
+}
+
+static void numbers_of_a_set(void)
+{
+    about("a set");
+    check(MITONGORY_MOST_PATTERNS == 64, "patterns");
+    check(MITONGORY_SET_SIZE == 18, "refusal");
 }
 
 static void numbers_of_a_sitting(void)
@@ -96,6 +107,7 @@ void header(void)
 {
     version();
     cells_of_a_search();
+    numbers_of_a_set();
     numbers_of_a_sitting();
     result_texts();
 }

@@ -36,6 +36,15 @@ static uint32_t search_largest(const uint8_t *text, uint32_t method, uint32_t ma
                             scratch, MITONGORY_SCRATCH_CELLS, answer, MITONGORY_ANSWER_CELLS);
 }
 
+/* A search for two ones, and for one. */
+static uint32_t search_largest_for_set(const uint8_t *text, uint32_t mark)
+{
+    static const uint8_t patterns[] = {0xc0, 0x80};
+    static const uint64_t counts[] = {2, 1};
+    return mitongory_search_set(text, LARGEST_N / 8, LARGEST_N, patterns, 2, all_fixed, 2, counts, 2, mark, UINT32_MAX, list,
+                                2, answer, MITONGORY_ANSWER_CELLS);
+}
+
 /* 2^30 bits, all 0 but the last: its place is the largest there is. */
 static void largest_text(void)
 {
@@ -57,6 +66,13 @@ static void largest_text(void)
     check(search_largest(text, MITONGORY_PLAIN, LARGEST_N) == MITONGORY_OK, "from the largest mark");
     check(answer[MITONGORY_STEPS] == 0 && answer_is(0, LARGEST_N), "answer there");
     check(search_largest(text, MITONGORY_PLAIN, LARGEST_N + 1) == MITONGORY_BEYOND_END, "after it");
+    list[0] = list[1] = untouched;
+    check(search_largest_for_set(text, 0) == MITONGORY_OK, "result for a set");
+    check(answer[MITONGORY_STEPS] == LARGEST_N && answer_is(1, LARGEST_N), "answer for a set");
+    check(list[0] == LARGEST_N - 1 && list[1] == 1, "list for a set");
+    check(search_largest_for_set(text, LARGEST_N) == MITONGORY_OK, "a set from the largest mark");
+    check(answer[MITONGORY_STEPS] == 0 && answer_is(0, LARGEST_N), "its answer there");
+    check(search_largest_for_set(text, LARGEST_N + 1) == MITONGORY_BEYOND_END, "a set after it");
     check(mitongory_eight_bits(text, bytes, LARGEST_N, LARGEST_N - 8, answer, 1) == MITONGORY_OK && answer[0] == 1,
           "eight bits");
     check(mitongory_eight_bits(text, bytes, LARGEST_N, LARGEST_N - 7, answer, 1) == MITONGORY_BEYOND_END,
@@ -77,7 +93,7 @@ static void clear(size_t bytes)
     memset(huge, 0, bytes);
 }
 
-/* Paper 1 by hash, with these buffers. */
+/* The buffers of a search of paper 1. */
 struct buffers {
     const uint8_t *text, *pattern, *fixed;
     uint32_t *list;
@@ -94,6 +110,7 @@ static struct buffers small_buffers(void)
     return b;
 }
 
+/* By hash. */
 static uint32_t search_with(struct buffers b)
 {
     return mitongory_search(b.text, b.text_len, PAPER1_N, b.pattern, b.pattern_len, b.fixed, b.fixed_len, PAPER1_M,
@@ -153,6 +170,55 @@ static void long_searches(void)
     b.answer_len = length;
     check(search_with(b) == MITONGORY_OK, "answer");
     check(finds(&b) && memcmp(b.answer, told, sizeof told) == 0, "what that answer holds");
+    clear(sizeof answer);
+}
+
+/* For a set of its pattern alone, whose number 0 is the second cell. */
+static uint32_t search_set_with(struct buffers b, const uint64_t *counts, size_t counts_len)
+{
+    return mitongory_search_set(b.text, b.text_len, PAPER1_N, b.pattern, b.pattern_len, b.fixed, b.fixed_len, counts,
+                                counts_len, 0, UINT32_MAX, b.list, b.list_len, b.answer, b.answer_len);
+}
+
+static void long_sets(void)
+{
+    static const uint64_t counts[] = {PAPER1_M};
+    const uint64_t told[] = {PAPER1_PLACES, 1, PAPER1_PLACES, MITONGORY_DONE, 0};
+    struct buffers b = small_buffers();
+    about("a set with a length of 33 bits");
+    memcpy(huge, paper1_text, sizeof paper1_text);
+    b.text = huge;
+    b.text_len = length;
+    check(search_set_with(b, counts, 1) == MITONGORY_OK && finds(&b), "text");
+    clear(sizeof paper1_text);
+
+    memcpy(huge, paper1_pattern, sizeof paper1_pattern);
+    b = small_buffers();
+    b.pattern = huge;
+    b.pattern_len = length;
+    check(search_set_with(b, counts, 1) == MITONGORY_OK && finds(&b), "patterns");
+    clear(sizeof paper1_pattern);
+
+    memset(huge, 0xff, sizeof paper1_pattern);
+    b = small_buffers();
+    b.fixed = huge;
+    b.fixed_len = length;
+    check(search_set_with(b, counts, 1) == MITONGORY_OK && finds(&b), "fixed");
+    clear(sizeof paper1_pattern);
+
+    b = small_buffers();
+    check(search_set_with(b, huge, length) == MITONGORY_SET_SIZE, "counts");
+
+    b.list = huge;
+    b.list_len = length;
+    check(search_set_with(b, counts, 1) == MITONGORY_OK && finds(&b) && b.list[2] == 0, "list");
+    clear(2 * sizeof *b.list);
+
+    b = small_buffers();
+    b.answer = huge;
+    b.answer_len = length;
+    check(search_set_with(b, counts, 1) == MITONGORY_OK && finds(&b), "answer");
+    check(memcmp(b.answer, told, sizeof told) == 0, "what that answer holds");
     clear(sizeof answer);
 }
 
@@ -252,6 +318,7 @@ static void lengths_of_33_bits(void)
     huge = zeros(bytes, "there are no 32 GiB of addresses for lengths of 33 bits: lift the limit (ulimit -v, "
                         "vm.overcommit_memory), as these checks are never left out");
     long_searches();
+    long_sets();
     long_values();
     long_lists();
     long_sittings();

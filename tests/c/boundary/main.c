@@ -20,6 +20,8 @@ int main(void)
     sitting();
     drawn_sittings();
     drawn_files();
+    sets();
+    drawn_sets();
     pointers();
     large();
     header();

@@ -16,8 +16,7 @@ static int agrees(const struct search *q, uint64_t j, unsigned value)
     return bit(q->fixed, j) == 0 || bit(q->pattern, j) == value;
 }
 
-/* Whether the first k bits of the pattern agree with the text from bit p on. */
-static int begins(const struct search *q, uint64_t k, uint64_t p)
+int begins(const struct search *q, uint64_t k, uint64_t p)
 {
     uint64_t j;
     for (j = 0; j < k && agrees(q, j, bit(q->text, p + j)); j++)

@@ -15,6 +15,9 @@ enum { MOST_PLACES = 512 };
 /* Whether the method takes no pattern of m bits. */
 int unfit(uint32_t method, uint64_t m);
 
+/* Whether the first k bits of the pattern agree with the text from bit p on. */
+int begins(const struct search *q, uint64_t k, uint64_t p);
+
 /* The least d in from..m at which the pattern agrees with the value; H(B) from 0 on. Only the pattern plays a part. */
 uint64_t least_move(const struct search *q, unsigned value, uint64_t from);
 

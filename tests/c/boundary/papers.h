@@ -38,4 +38,10 @@ unsigned bit(const uint8_t *bytes, uint64_t p);
 /* Sets a bit that is 0. */
 void set_bit(uint8_t *bytes, uint64_t p, unsigned value);
 
+/* So many bits from bit p of a run on, to the front of another one, where they are 0. */
+void copy_bits(const uint8_t *from, uint64_t p, uint64_t count, uint8_t *to);
+
+/* A 1 for each character that is among `ones`, in a run of zeros; the number of characters. */
+size_t pack(const char *bits, const char *ones, uint8_t *bytes);
+
 #endif

@@ -11,6 +11,8 @@ void lists(void);
 void drawn_files(void);
 void sitting(void);
 void drawn_sittings(void);
+void sets(void);
+void drawn_sets(void);
 void pointers(void);
 void large(void);
 void header(void);

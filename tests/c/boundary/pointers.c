@@ -12,9 +12,21 @@ static uint64_t scratch[MITONGORY_SCRATCH_CELLS], answer[MITONGORY_ANSWER_CELLS]
 #define SEARCH(m, method, answer, answer_len)                                                                              \
     mitongory_search(nowhere, 0, 0, nowhere, 0, nowhere, 0, m, method, 0, 0, nowhere, 0, nowhere, 0, answer, answer_len)
 
+/* A search for a set of no patterns or of one, in which only the answer may be a buffer that is not empty. */
+#define SET(patterns, answer, answer_len)                                                                                  \
+    mitongory_search_set(nowhere, 0, 0, nowhere, 0, nowhere, 0, patterns == 0 ? nowhere : &m, patterns, 0, 0, nowhere, 0,  \
+                         answer, answer_len)
+
 /* A sitting of no sheets or of an empty one, in which only the answer may be a buffer that is not empty. */
 #define SITTING(sheets, answer, answer_len)                                                                                \
     mitongory_mark_sitting(nowhere, 0, nowhere, 0, sheets == 0 ? nowhere : &none, sheets, nowhere, 0, answer, answer_len)
+
+/* Whether a search says that there is no place. */
+static int nothing_is_told(void)
+{
+    return answer[MITONGORY_STEPS] == 0 && answer[MITONGORY_OCCURRENCES] == 0 && answer[MITONGORY_MARK] == 0 &&
+           answer[MITONGORY_STOP] == MITONGORY_DONE;
+}
 
 /* Every call with every buffer empty, then all but the answer. */
 static void empty_buffers(const char *name, void *nowhere)
@@ -53,9 +65,18 @@ static void empty_buffers(const char *name, void *nowhere)
     check(mitongory_search(nowhere, 0, 0, paper1_pattern, PAPER1_PATTERN_BYTES, all_fixed, PAPER1_PATTERN_BYTES, PAPER1_M,
                            MITONGORY_PLAIN, 0, 1, nowhere, 0, scratch, MITONGORY_SCRATCH_CELLS, answer, 4) == MITONGORY_OK,
           "an empty text and an empty list");
-    check(answer[MITONGORY_STEPS] == 0 && answer[MITONGORY_OCCURRENCES] == 0 && answer[MITONGORY_MARK] == 0 &&
-              answer[MITONGORY_STOP] == MITONGORY_DONE,
-          "the answer to them");
+    check(nothing_is_told(), "the answer to them");
+    check(SET(0, nowhere, 0) == MITONGORY_ANSWER_CELLS_MISSING, "set");
+    check(SET(0, answer, 4) == MITONGORY_SET_SIZE, "set of no patterns");
+    check(SET(1, answer, 4) == MITONGORY_PATTERN_BYTES_MISSING, "set of a pattern with no bytes");
+    check(mitongory_search_set(nowhere, 0, 0, paper1_pattern, 1, nowhere, 0, &m, 1, 0, 1, nowhere, 0, answer, 4) ==
+              MITONGORY_FIXED_BYTES_MISSING,
+          "set with an empty second run");
+    answer[MITONGORY_STOP] = MITONGORY_SPENT;
+    check(mitongory_search_set(nowhere, 0, 0, paper1_pattern, 1, all_fixed, 1, &m, 1, 0, 1, nowhere, 0, answer, 4) ==
+              MITONGORY_OK,
+          "set in an empty text with an empty list");
+    check(nothing_is_told(), "the answer to it");
 }
 
 /* The one occurrence of the second paper's pattern in itself. */
@@ -74,7 +95,7 @@ static void one_place(const uint8_t *both, const uint8_t *fixed)
 static void same_buffer(void)
 {
     const uint32_t *key = paper2_occurrences;
-    const uint64_t count = PAPER2_OCCURRENCES;
+    const uint64_t count = PAPER2_OCCURRENCES, m = PAPER2_M;
     uint32_t list[4] = {1, 1, 1, 1};
     about("one buffer as key and sheet");
     check(mitongory_mark_sitting(key, PAPER2_OCCURRENCES, key, PAPER2_OCCURRENCES, &count, 1, list, 4, answer, 4) ==
@@ -87,6 +108,13 @@ static void same_buffer(void)
     one_place(paper2_pattern, all_fixed);
     about("one buffer as text, pattern and second run");
     one_place(paper2_pattern, paper2_pattern);
+    about("one buffer as text, patterns and second run of a set");
+    check(mitongory_search_set(paper2_pattern, PAPER2_PATTERN_BYTES, PAPER2_M, paper2_pattern, PAPER2_PATTERN_BYTES,
+                               paper2_pattern, PAPER2_PATTERN_BYTES, &m, 1, 0, 9, list, 4, answer, 4) == MITONGORY_OK,
+          "result");
+    check(answer[MITONGORY_OCCURRENCES] == 1 && list[0] == 0 && list[1] == 0 && answer[MITONGORY_STEPS] == 1 &&
+              answer[MITONGORY_MARK] == 1 && answer[MITONGORY_STOP] == MITONGORY_DONE,
+          "answer");
 }
 
 void pointers(void)

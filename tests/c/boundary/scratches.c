@@ -98,14 +98,12 @@ static void one_length(uint64_t m)
 {
     uint8_t text[MOST_BYTES], pattern[MOST_BYTES] = {0}, fixed[MOST_BYTES];
     struct search q = paper1(MITONGORY_PLAIN);
-    uint64_t i, from;
+    uint64_t i;
     for (i = 0; i < sizeof text; i++)
         text[i] = (uint8_t)(m % 3 == 0 ? 0x55 : draw(256));
     q.text = text, q.n = m + draw(MORE_BITS), q.text_len = (size_t)(q.n + 7) / 8;
     q.pattern = pattern, q.m = m, q.pattern_len = (size_t)(m + 7) / 8;
-    from = draw(q.n - m + 1);
-    for (i = 0; i < m; i++)
-        set_bit(pattern, i, bit(text, from + i));
+    copy_bits(text, draw(q.n - m + 1), m, pattern);
     draw_fixed((enum wild)(m % WAYS), m, fixed);
     q.fixed = fixed, q.fixed_len = q.pattern_len;
     q.list_len = MORE_BITS;

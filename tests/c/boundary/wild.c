@@ -13,20 +13,11 @@ struct paper {
     uint8_t text[MOST_BYTES], pattern[MOST_BYTES], fixed[MOST_BYTES];
 };
 
-/* A 1 for each character that is among `ones`; the number of characters. */
-static size_t pack(const char *bits, const char *ones, uint8_t *bytes)
-{
-    size_t i;
-    memset(bytes, 0, MOST_BYTES);
-    for (i = 0; bits[i] != '\0'; i++)
-        set_bit(bytes, i, strchr(ones, bits[i]) != NULL);
-    return i;
-}
-
 /* All else as for paper 1. The values at the wild bits are 0. */
 static struct search search_for(uint32_t method, const char *text, const char *pattern, struct paper *p)
 {
     struct search q = paper1(method);
+    memset(p, 0, sizeof *p);
     q.n = pack(text, "1", p->text);
     q.m = pack(pattern, "1", p->pattern);
     pack(pattern, "01", p->fixed);
