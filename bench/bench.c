@@ -5,6 +5,7 @@
 //   bench hard              searches on texts and patterns on which little is ruled out early
 //   bench short             calls with a budget of one step, nanoseconds for a call
 //   bench tables            calls on a text of one place, with wild bits of every kind against none
+//   bench sets [BITS_LOG2]  searches for a set of patterns, nanoseconds for each bit
 //   bench files             the position list file, nanoseconds for a position
 //   bench sitting           the marking of a sitting, nanoseconds for a position
 //   bench before            searches and list files of the library against an earlier archive of it, where one was linked
@@ -45,6 +46,15 @@ int main(int count, char **args) {
                "and the wild bits that the library has it with; last comes the largest library / C, whatever the wild bits.\n");
         known = 1, time_tables();
     }
+    if (all || !strcmp(mode, "sets")) {
+        printf("\n## Searches for a set\n\n"
+               "1, 8 and 64 patterns of m bits, drawn from the text: nanoseconds for each bit of the text. Library and C make one\n"
+               "pass; the plain searches are those of the library for each pattern by itself, one after the other, on the first\n"
+               "eighth of the text. At 90 %% zeros, 64 patterns of 20 bits have more than one occurrence a place between them. So that\n"
+               "the list of pairs stays short enough, the text has 2^22 bits there. Last come calls with a budget of one step, in\n"
+               "nanoseconds for a call, which are those of making its tables.\n");
+        known = 1, time_sets(number ? (int)number : 27);
+    }
     if (all || !strcmp(mode, "files")) {
         printf("\n## The position list file\n\nNanoseconds for each position. With no cells the file is judged, and the answer is\n"
                "refusal 14.\n");
@@ -58,6 +68,6 @@ int main(int count, char **args) {
         known = 1, time_sitting();
     }
     if (!strcmp(mode, "before")) known = 1, time_before();
-    if (!known) fprintf(stderr, "bench check | texts | wild | hard | short | tables | files | sitting | before | all\n");
+    if (!known) fprintf(stderr, "bench check | texts | wild | hard | short | tables | sets | files | sitting | before | all\n");
     return known ? 0 : 2;
 }

@@ -1,5 +1,5 @@
 // Holds the searches of library and yardstick to the rules (the course's papers, the refusals, drawn inputs), and compares
-// what the two say of drawn list files, good and damaged. For sittings see check_sittings.c.
+// what the two say of drawn list files, good and damaged. For sets and sittings see check_sets.c and check_sittings.c.
 #include "bench.h"
 #include "codec.h"
 #include "draw.h"
@@ -282,7 +282,8 @@ int check(long rounds) {
             }
         }
     }
-    long sittings = check_sittings(rounds * 1000);
-    printf("%ld searches as the rules say, %ld list file calls alike, %ld sittings as the rules say\n", calls, files, sittings);
+    long sittings = check_sittings(rounds * 1000), sets = check_sets(rounds * 10);
+    printf("%ld searches as the rules say, %ld list file calls alike, %ld sets and %ld sittings as the rules say\n", calls, files,
+           sets, sittings);
     return 0;
 }

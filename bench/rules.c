@@ -95,3 +95,31 @@ void rules_search(const uint8_t *t, size_t n, const struct word *w, int method, 
     }
     *out = (struct answer){0, steps, hits, mark, mark == end ? DONE : SPENT};
 }
+
+static size_t places(size_t m, size_t n) { return m <= n ? n - m + 1 : 0; }
+
+size_t rules_places(const struct set *set, size_t n) {
+    size_t most = 0;
+    for (size_t p = 0; p < set->count; p++)
+        if (places(set->counts[p], n) > most) most = places(set->counts[p], n);
+    return most;
+}
+
+void rules_search_set(const uint8_t *t, size_t n, const struct set *set, size_t mark, size_t budget, uint32_t *list,
+                      size_t cells, struct answer *out) {
+    size_t end = rules_places(set, n), steps = 0, pairs = 0;
+    for (; mark < end && steps < budget; steps++, mark++) {
+        uint32_t found[64];
+        size_t k = 0, start = 0;
+        for (size_t p = 0; p < set->count; start += (set->counts[p++] + 7) / 8) {
+            struct word w = {set->bits + start, set->fixed + start, set->counts[p]};
+            if (mark < places(w.m, n) && hit(t, &w, w.m, mark)) found[k++] = (uint32_t)p;
+        }
+        if (2 * (pairs + k) > cells) {
+            *out = (struct answer){0, steps, pairs, mark, FULL};
+            return;
+        }
+        for (size_t i = 0; i < k; i++, pairs++) list[2 * pairs] = (uint32_t)mark, list[2 * pairs + 1] = found[i];
+    }
+    *out = (struct answer){0, steps, pairs, mark, mark == end ? DONE : SPENT};
+}

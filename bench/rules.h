@@ -1,7 +1,7 @@
 // The search rules read bit by bit, for the check of the library and of the yardstick.
 #ifndef RULES_H
 #define RULES_H
-#include "yardstick.h"
+#include "set_yardstick.h"
 
 extern const char *const method_names[METHODS];
 
@@ -22,6 +22,13 @@ static inline size_t scratch_cells(int method, size_t m) {
 // What a call answers.
 void rules_search(const uint8_t *t, size_t n, const struct word *w, int method, size_t mark, size_t budget, uint32_t *list,
                   size_t cells, struct answer *out);
+
+// The places of a set in a text of n bits: the most that any pattern has.
+size_t rules_places(const struct set *set, size_t n);
+
+// What a call for a set answers.
+void rules_search_set(const uint8_t *t, size_t n, const struct set *set, size_t mark, size_t budget, uint32_t *list,
+                      size_t cells, struct answer *out);
 
 // H(B) of a pattern of at least 8 bits.
 size_t rules_hash_value(const struct word *w, unsigned value);

@@ -2,35 +2,13 @@
 // other than those past the end. Where a pattern with wild bits needs other code than one without, a function has `wild`,
 // which is always known when it is compiled, so that a pattern without wild bits does not pay for the others. See yardstick.h.
 #include "yardstick.h"
+#include "words.h"
 #include <string.h>
 
 struct run {
     size_t at, steps, hits;
     int full;
 };
-
-static inline uint64_t be64(const uint8_t *p) {
-    uint64_t x;
-    memcpy(&x, p, 8);
-    return __builtin_bswap64(x);
-}
-
-static uint64_t __attribute__((noinline)) be64_end(const uint8_t *s, size_t len, size_t b) {
-    uint8_t t[8] = {0};
-    if (b < len) memcpy(t, s + b, len - b < 8 ? len - b : 8);
-    return be64(t);
-}
-
-static inline uint64_t bytes64(const uint8_t *s, size_t len, size_t b) {
-    return b + 8 <= len ? be64(s + b) : be64_end(s, len, b);
-}
-
-// 64 bits from bit p on.
-static inline uint64_t bits64(const uint8_t *s, size_t len, size_t p) {
-    size_t b = p >> 3, r = p & 7;
-    if (b + 9 <= len) return be64(s + b) << r | (uint64_t)s[b + 8] >> (8 - r);
-    return be64_end(s, len, b) << r | (b + 8 < len ? (uint64_t)s[b + 8] >> (8 - r) : 0);
-}
 
 // Eight bits from bit p on.
 static inline unsigned bits8(const uint8_t *s, size_t p) {
@@ -151,18 +129,6 @@ static void hash_tables(const struct pattern *restrict w, uint64_t *restrict c) 
         for (size_t r = 0; r < 8; r++) c[x >> (8 - r) & 255] = w->m - 8 - p - r;
     }
     for (; p + 8 < w->m; p++) c[bits8(w->bytes, p)] = w->m - 8 - p;
-}
-
-// Words of 64 places each, with a 1 where the pattern agrees with a value of four bits. The runs have the pattern's bits and
-// the second run's at the places that the value's first, second, third and last bit stands for.
-static void fours(const uint64_t *bits, const uint64_t *fixed, uint64_t *c) {
-    uint64_t two[2][4];
-    for (size_t i = 0; i < 2; i++) {
-        uint64_t p = bits[2 * i], f = fixed[2 * i], q = bits[2 * i + 1], g = fixed[2 * i + 1];
-        uint64_t first[2] = {~(p & f), p | ~f}, second[2] = {~(q & g), q | ~g};
-        for (size_t v = 0; v < 4; v++) two[i][v] = first[v >> 1] & second[v & 1];
-    }
-    for (size_t v = 0; v < 16; v++) c[v] = two[0][v >> 2] & two[1][v & 3];
 }
 
 // The 64 bits of a run that end d bits before its bit m, those before its first bit 0.

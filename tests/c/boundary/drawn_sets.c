@@ -163,7 +163,7 @@ static void one_pattern(struct set_search q, enum side side, size_t i)
     static uint64_t scratch[MITONGORY_SCRATCH_CELLS];
     uint64_t told[MITONGORY_ANSWER_CELLS] = {0}, k;
     uint32_t places[TEXT_BITS] = {0}, pairs[PAIR_CELLS * TEXT_BITS] = {0};
-    size_t first = 0, j;
+    size_t first = 0, half, j;
     for (j = 0; j < i; j++)
         first += (size_t)(q.counts[j] + 7) / 8;
     q.patterns += first;
@@ -172,9 +172,10 @@ static void one_pattern(struct set_search q, enum side side, size_t i)
     q.counts += i;
     q.counts_len = 1;
     q = draw_call(q);
+    half = q.list_len / PAIR_CELLS < TEXT_BITS ? q.list_len / PAIR_CELLS : TEXT_BITS; /* one for each place is enough */
     check(mitongory_search(q.text, q.text_len, q.n, q.patterns, q.patterns_len, q.fixed, q.fixed_len, q.counts[0],
-                           MITONGORY_PLAIN, q.mark, q.budget, places, q.list_len / 2 < TEXT_BITS ? q.list_len / 2 : TEXT_BITS,
-                           scratch, MITONGORY_SCRATCH_CELLS, told, MITONGORY_ANSWER_CELLS) == MITONGORY_OK,
+                           MITONGORY_PLAIN, q.mark, q.budget, places, half, scratch, MITONGORY_SCRATCH_CELLS, told,
+                           MITONGORY_ANSWER_CELLS) == MITONGORY_OK,
           "result of the plain method");
     for (k = 0; k < told[MITONGORY_OCCURRENCES]; k++)
         pairs[PAIR_CELLS * k] = places[k];

@@ -38,8 +38,8 @@ void add_patterns(struct set *s, const char *patterns)
 
 struct set_search search_for_set(const uint8_t *text, uint64_t n, const struct set *s, size_t list_len)
 {
-    struct set_search q = {text,      (size_t)(n + 7) / 8, n, s->values,  s->bytes, s->fixed,              s->bytes,
-                           s->counts, s->count,            0, UINT32_MAX, list_len, MITONGORY_ANSWER_CELLS};
+    struct set_search q = {text, (size_t)(n + 7) / 8, n, s->values, s->bytes, s->fixed, s->bytes, s->counts, s->count, 0,
+                           UINT32_MAX, list_len, MITONGORY_ANSWER_CELLS};
     return q;
 }
 

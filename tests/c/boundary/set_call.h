@@ -40,7 +40,7 @@ struct set_search {
     size_t list_len, answer_len;
 };
 
-/* From the mark 0 on, with the largest budget, so many list cells, and just the bytes and the answer cells that it needs. */
+/* From the mark 0 on, with the largest budget, so many list cells, and just the bytes and answer cells that are needed. */
 struct set_search search_for_set(const uint8_t *text, uint64_t n, const struct set *s, size_t list_len);
 
 /*

@@ -1,6 +1,6 @@
 /*
- * Searches for a set of patterns: what is found and in what order, every way to stop, every refusal and their order, and the
- * edges.
+ * Searches for a set of patterns: what is found and in what order, every way to stop, every refusal and their order, and
+ * the edges.
  */
 #include <string.h>
 
@@ -27,19 +27,22 @@ static struct set_search search_line(const char *line, const char *patterns)
     return search_for_set(text, n, &set, ENOUGH);
 }
 
-/* The line and the set of most cases. Their pairs, and the place of each, which they rise by. */
+/* The line and the set of most cases, and their pairs. */
 static const char *const line = "0110110", *const nested = "1 11 110";
 static const uint32_t nested_pairs[] = {1, 0, 1, 1, 1, 2, 2, 0, 4, 0, 4, 1, 4, 2, 5, 0};
-enum { NESTED_PAIRS = 8, LINE_N = 7, LINE_BITS_LEFT = 1 };
+enum { NESTED_PAIRS = 8, LINE_N = 7 };
 
 static void small_sets(void)
 {
-    static const uint32_t apart[] = {0, 1, 1, 0, 2, 2, 3, 1, 4, 0}, other_order[] = {1, 0, 1, 1, 1, 2, 2, 1, 4, 0, 4, 1, 4, 2, 5, 1};
+    static const uint32_t apart[] = {0, 1, 1, 0, 2, 2, 3, 1, 4, 0};
+    static const uint32_t other_order[] = {1, 0, 1, 1, 1, 2, 2, 1, 4, 0, 4, 1, 4, 2, 5, 1};
     static const uint32_t equal[] = {1, 0, 1, 1, 1, 2, 4, 0, 4, 1, 4, 2}, wild[] = {0, 0, 0, 1, 1, 0, 1, 1, 2, 0};
     static const uint32_t whole[] = {0, 0, 0, 1, 3, 1, 6, 1}, one[] = {1, 0, 4, 0};
     accepted_set("three patterns", search_line(line, "11 0110 1?1"), 6, 5, 6, MITONGORY_DONE, apart);
-    accepted_set("each a beginning of the next", search_line(line, nested), 7, NESTED_PAIRS, 7, MITONGORY_DONE, nested_pairs);
-    accepted_set("the same in another order", search_line(line, "110 1 11"), 7, NESTED_PAIRS, 7, MITONGORY_DONE, other_order);
+    accepted_set("each a beginning of the next", search_line(line, nested), 7, NESTED_PAIRS, 7, MITONGORY_DONE,
+                 nested_pairs);
+    accepted_set("the same in another order", search_line(line, "110 1 11"), 7, NESTED_PAIRS, 7, MITONGORY_DONE,
+                 other_order);
     accepted_set("one pattern", search_line(line, "11"), 6, 2, 6, MITONGORY_DONE, one);
     accepted_set("three that are equal", search_line(line, "11 11 11"), 6, 6, 6, MITONGORY_DONE, equal);
     accepted_set("only wild bits", search_line("010", "? ??"), 3, 5, 3, MITONGORY_DONE, wild);
@@ -55,7 +58,7 @@ static void bits_after_the_last(void)
     uint8_t text[MORE + 1], values[MORE + 3], fixed[MORE + 3];
     struct set_search q = search_line(line, nested);
     memset(text, 0xff, sizeof text);
-    text[0] = (uint8_t)(q.text[0] | LINE_BITS_LEFT);
+    text[0] = q.text[0] | 1; /* the bit after the line's last */
     memset(values, 0xff, sizeof values);
     memset(fixed, 0xff, sizeof fixed);
     q.text = text;
@@ -184,8 +187,8 @@ static void one_place_for_all(void)
 }
 
 /*
- * A pattern of m bits from the text, the same with one bit changed, a shorter one, and the longest beginning of the first
- * that is shorter. Only some bits of the text repeat, or all of them do.
+ * A pattern of m bits from the text, the same without its last bit, a short one, and the first with one bit changed. The
+ * bits of the text are drawn or alternate.
  */
 static void one_length(uint64_t m, int repeats)
 {
@@ -343,7 +346,8 @@ static void order_of_refusals(void)
                                      MITONGORY_PATTERN_BYTES_MISSING,
                                      MITONGORY_FIXED_BYTES_MISSING,
                                      MITONGORY_BEYOND_END};
-    static const uint64_t wrong_n[] = {LARGEST_N + 1, UINT64_MAX}, wrong_m[] = {0, LARGEST_M + 1, TWO_TO_32 + 9, UINT64_MAX};
+    static const uint64_t wrong_n[] = {LARGEST_N + 1, UINT64_MAX};
+    static const uint64_t wrong_m[] = {0, LARGEST_M + 1, TWO_TO_32 + 9, UINT64_MAX};
     enum { ANSWER, LONG, TEXT, SIZE, M0, VALUES0, FIXED0, M1, VALUES1, FIXED1, MARK, CONDITIONS }; /* in that order */
     unsigned choice, first;
     about("the first condition that holds");
