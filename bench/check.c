@@ -282,7 +282,7 @@ int check(long rounds) {
             }
         }
     }
-    long sittings = check_sittings(rounds * 1000), sets = check_sets(rounds * 10);
+    long sittings = check_sittings(rounds * 1000), sets = check_sets(rounds * 20);
     printf("%ld searches as the rules say, %ld list file calls alike, %ld sets and %ld sittings as the rules say\n", calls, files,
            sets, sittings);
     return 0;

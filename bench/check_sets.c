@@ -7,7 +7,8 @@
 #include <stdlib.h>
 #include <string.h>
 
-enum { MOST = MITONGORY_MOST_PATTERNS, BITS = 400, ALL_CELLS = 2 * MOST * BITS };
+// A large input has a long text and few patterns, so that the pairs of both kinds fit.
+enum { MOST = MITONGORY_MOST_PATTERNS, FEW = 6, BITS = 400, MANY_BITS = 3000, ALL_CELLS = 2 * MOST * BITS };
 
 // Room for the parts of an input, each between pages that cannot be touched.
 struct rooms {
@@ -20,16 +21,22 @@ struct input {
     struct set set, twin;
 };
 
-// The length of a pattern: most are short. In a large set some are longer than any text.
-static size_t draw_length(int large) { return 1 + below(below(3) ? 40 : below(3) ? 150 : large ? 2048 : 300); }
+// The length of a pattern: most are short or about those at which the C code takes another way.
+static size_t draw_length(int large) {
+    static const size_t edges[] = {32, 64, 128, 192};
+    if (below(4) == 0) return edges[below(4)] - 1 + below(3);
+    return 1 + below(below(2) ? 40 : large ? 2048 : 300);
+}
 
-// The bits of a pattern by chance, from the text, or as the pattern before it begins; in a third of them one bit is drawn anew.
+// The bits of a pattern by chance, from the text, or as the pattern before it begins; in a third of them one bit is changed,
+// often the last.
 static void draw_bits(uint8_t *bits, size_t m, const uint8_t *t, size_t n, const uint8_t *before, size_t before_m) {
     size_t kind = below(4), from = m <= n ? below(n - m + 1) : 0;
     for (size_t j = 0; j < (m + 7) / 8 * 8; j++) set_bit(bits, j, (int)below(2));
     for (size_t j = 0; j < m && kind < 3; j++)
         if (kind == 0 ? j < before_m : m <= n) set_bit(bits, j, kind == 0 ? bit_at(before, j) : bit_at(t, from + j));
-    if (below(3) == 0) set_bit(bits, below(m), (int)below(2));
+    size_t change = below(2) ? m - 1 : below(m);
+    if (below(3) == 0) set_bit(bits, change, !bit_at(bits, change));
 }
 
 // A text and a set, and a set that is the same to the rules: other values at the wild bits, and other bits after the last one
@@ -37,8 +44,8 @@ static void draw_bits(uint8_t *bits, size_t m, const uint8_t *t, size_t n, const
 static struct input input(struct rooms *in, int large, int front) {
     static uint8_t bits[2][MOST * 256], fixed[2][MOST * 256];
     static uint64_t counts[MOST];
-    size_t count = 1 + below(below(3) ? 6 : MOST), kind = below(2 * WILD_KINDS), start = 0, before = 0;
-    size_t n = below(BITS + 1), ones = 1 + below(10), period = below(3) ? 0 : 1 + below(12);
+    size_t count = 1 + below(large || below(3) ? FEW : MOST), kind = below(2 * WILD_KINDS), start = 0, before = 0;
+    size_t n = below((large ? MANY_BITS : BITS) + 1), ones = 1 + below(10), period = large || below(3) ? 0 : 1 + below(12);
     uint8_t *t = lent(in->text, (n + 7) / 8, front);
     for (size_t i = 0; i < (n + 7) / 8 * 8; i++)
         set_bit(t, i, period && i >= period ? bit_at(t, i - period) : below(20) < ones);
@@ -89,9 +96,10 @@ long check_sets(long rounds) {
     struct rooms in = {room(), {room(), room()}, {room(), room()}, room(), room()};
     long calls = 0;
     for (long r = 0; r < rounds; r++) {
-        struct input x = input(&in, r % 4 == 3, below(2));
+        int large = r % 4 == 3;
+        struct input x = input(&in, large, below(2));
         size_t end = rules_places(&x.set, x.n);
-        for (size_t mark = 0; mark <= end; mark += 1 + below(end / 4 + 1)) {
+        for (size_t mark = 0; mark <= end; mark += 1 + below(end / (large ? 1 : 4) + 1)) {
             size_t budgets[] = {0, 1, below(20), 4294967295u}, cells[] = {0, 1, below(12), 2 * MOST + below(8), ALL_CELLS};
             for (int k = 0; k < 20; k++, calls += 4) check_call(&x, mark, budgets[k % 4], cells[k / 4], in.list);
         }
