@@ -200,7 +200,7 @@ enum mitongory_answer {
 /* How an accepted search stopped. */
 enum mitongory_stop {
     MITONGORY_DONE = 0, /* every place is decided */
-    MITONGORY_FULL = 1, /* a further occurrence is at the mark, and the list had no free cell for it; for a set, not for all */
+    MITONGORY_FULL = 1, /* a further occurrence is at the mark, and the list had no free cell for it; for a set, too few */
     MITONGORY_SPENT = 2 /* the budget of steps is spent */
 };
 
@@ -260,16 +260,16 @@ uint32_t mitongory_search(const uint8_t *text, size_t text_len, uint64_t n,
  * always has room for one place, so that a call with a budget of one step or more moves the mark or is done; with fewer
  * cells, going on may never end.
  *
- *   text       packed bits, as `patterns` and `fixed`; there may be more bytes of each than the bit counts need, and what is
- *              in them never matters
+ *   text       packed bits, as `patterns` and `fixed`; there may be more bytes of each than the bit counts need, and what
+ *              is in them never matters
  *   patterns   the values of the bits of all patterns, each pattern from the byte after the one before it on
  *   fixed      1 for a fixed bit and 0 for a wild one, laid out as `patterns`
  *   counts     how many bits each pattern has; counts_len is the number of patterns
  *   list       any length; the pairs go to its front, and the other cells stay. An odd cell at its end is not used.
  *   answer     at least MITONGORY_ANSWER_CELLS cells: steps, occurrences (pairs), mark, stop
  *
- * Returns 0, or the first of 101, 1, 2, 18; then 3, 4, 17 for each pattern in turn; then 6 that applies. A pattern gets 4
- * or 17 where that run ends before the last byte of the pattern.
+ * Returns 0, or the first that applies of 101, 1, 2, 18, then 3, 4, 17 for each pattern in turn, then 6. A pattern gets 4
+ * or 17 where that run ends before the pattern's last byte. 6 is for a mark above the number of places of the set.
  */
 uint32_t mitongory_search_set(const uint8_t *text, size_t text_len, uint64_t n,
                               const uint8_t *patterns, size_t patterns_len,
