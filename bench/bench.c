@@ -48,7 +48,7 @@ int main(int count, char **args) {
     }
     if (all || !strcmp(mode, "sets")) {
         printf("\n## Searches for a set\n\n"
-               "1, 8 and 64 patterns of m bits, drawn from the text: nanoseconds for each bit of the text. Library and C make one\n"
+               "1, 8 and 64 patterns of m bits, drawn once for each row: nanoseconds for each bit of the text. Library and C make one\n"
                "pass; the plain searches are those of the library for each pattern by itself, one after the other, on the first\n"
                "eighth of the text. At 90 %% zeros, 64 patterns of 20 bits have more than one occurrence a place between them. So that\n"
                "the list of pairs stays short enough, the text has 2^22 bits there. Last come calls with a budget of one step, in\n"
