@@ -9,6 +9,7 @@ pub mod Scratch
 pub mod Wild
 pub mod CallList
 pub mod Progress
+pub mod PatternSet
 pub mod ListCalls
 pub mod SittingCalls
 pub mod AnswerKey

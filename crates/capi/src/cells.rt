@@ -1,4 +1,4 @@
-// An accepted call stores its one number, or its three, to the first answer cells, and returns 0.
+// An accepted call stores its numbers, one, three or four, to the first answer cells, and returns 0.
 ghost use mathlib.Core.List.{[], _∷_};
 ghost use Prim.Native.Nat.{_≤_};
 ghost use lib.ListN.{length};
@@ -19,5 +19,16 @@ pub(crate) fn three(answer: &mut [u64], a: u64, b: u64, c: u64) -> u32
     answer[0] = a;
     answer[1] = b;
     answer[2] = c;
+    0
+}
+
+pub(crate) fn four(answer: &mut [u64], a: u64, b: u64, c: u64, d: u64) -> u32
+    requires { ⌜ 4 ≤ length (now answer) ⌝ }
+    ensures { λ r. ⌜ Tells (gives (a ∷ b ∷ c ∷ d ∷ [])) (now (answer .entry)) r (now (answer .exit)) ⌝ }
+{
+    answer[0] = a;
+    answer[1] = b;
+    answer[2] = c;
+    answer[3] = d;
     0
 }

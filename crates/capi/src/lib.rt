@@ -4,6 +4,7 @@
 mod cells;
 mod eight;
 mod lists;
+mod pattern_set;
 mod scan;
 mod sitting;
 mod version;

@@ -38,7 +38,7 @@ fn method_of(k: u32) -> Named
     }
 }
 
-fn stop_of(stop: Stop) -> u64
+pub(crate) fn stop_of(stop: Stop) -> u64
     ensures { λ r. ⌜ r ≡ stopNumber (endingOf stop) ⌝ }
 {
     match stop {
@@ -59,11 +59,13 @@ fn tell(outcome: Outcome, answer: &mut [u64]) -> u32
             let mark = a.mark;
             let at = mark.at;
             let stop = a.stop;
-            answer[0] = a.steps as u64;
-            answer[1] = a.occurrences as u64;
-            answer[2] = at.0 as u64;
-            answer[3] = stop_of(stop);
-            0
+            cells::four(
+                answer,
+                a.steps as u64,
+                a.occurrences as u64,
+                at.0 as u64,
+                stop_of(stop),
+            )
         }
     }
 }

@@ -4,7 +4,7 @@ ghost use mathlib.Core.Path.{_≡_};
 // The version as a number: major × 10,000 + minor × 100 + patch.
 #[no_mangle]
 pub extern "C" fn mitongory_version_0_7() -> u32
-    ensures { λ r. ⌜ r ≡ 700 ⌝ }
+    ensures { λ r. ⌜ r ≡ 701 ⌝ }
 {
-    700
+    701
 }
