@@ -72,11 +72,9 @@ struct call {
     uint32_t *list;
 };
 
-// Decides place s, with its first 32 bits. All of its pairs are listed, or where there is no room for them none is; the answer
-// is whether they were.
-static inline __attribute__((always_inline)) int decide(struct call *c, size_t s, uint32_t v) {
-    uint64_t f = flags(c->k, v);
-    if (!f) return 1;
+// Decides place s, with the patterns that agree with its first 32 bits. All of its pairs are listed, or where there is no room
+// for them none is; the answer is whether they were.
+static inline int decide(struct call *c, size_t s, uint64_t f) {
     if (f & c->k->longer || s >= c->k->least_end) f = standing(c->t, c->len, c->set, c->k, s, f);
     size_t count = 0;
     for (uint64_t left = f; left; left &= left - 1) count++;
@@ -87,18 +85,36 @@ static inline __attribute__((always_inline)) int decide(struct call *c, size_t s
     return 1;
 }
 
-// Decides places up to the limit; the answer is the first that is not decided. In the middle eight bytes show eight places.
+// Decides places up to the limit; the answer is the first that is not decided. In the middle eight bytes show 32 places: from
+// each of the eight offsets seven bytes go on, and four places share them.
 static size_t scan(struct call *c, size_t s, size_t limit) {
-    for (; s < limit && s & 7; s++)
-        if (!decide(c, s, bits64(c->t, c->len, s) >> 32)) return s;
-    for (; s + 8 <= limit && s / 8 + 8 <= c->len; s += 8) {
-        uint64_t x = be64(c->t + s / 8);
-#pragma GCC unroll 8
-        for (size_t i = 0; i < 8; i++)
-            if (!decide(c, s + i, x >> (32 - i))) return s + i;
+    const uint64_t(*agree)[256] = c->k->agree;
+    for (; s < limit && s & 7; s++) {
+        uint64_t f = flags(c->k, bits64(c->t, c->len, s) >> 32);
+        if (f && !decide(c, s, f)) return s;
     }
-    for (; s < limit; s++)
-        if (!decide(c, s, bits64(c->t, c->len, s) >> 32)) return s;
+    for (; s + 32 <= limit && s / 8 + 8 <= c->len; s += 32) {
+        uint64_t x = be64(c->t + s / 8), found[32], any = 0;
+#pragma GCC unroll 8
+        for (size_t i = 0; i < 8; i++) {
+            uint64_t y = x << i;
+            size_t b[7];
+            for (size_t j = 0; j < 7; j++) b[j] = y >> (56 - 8 * j) & 255;
+            for (size_t j = 0; j < 4; j++)
+                any |= found[8 * j + i] = agree[0][b[j]] & agree[1][b[j + 1]] & agree[2][b[j + 2]] & agree[3][b[j + 3]];
+        }
+        if (!any) continue;
+        uint64_t some = 0;
+        for (size_t e = 0; e < 32; e++) some |= (uint64_t)(found[e] != 0) << e;
+        for (; some; some &= some - 1) {
+            size_t e = __builtin_ctzll(some);
+            if (!decide(c, s + e, found[e])) return s + e;
+        }
+    }
+    for (; s < limit; s++) {
+        uint64_t f = flags(c->k, bits64(c->t, c->len, s) >> 32);
+        if (f && !decide(c, s, f)) return s;
+    }
     return s;
 }
 

@@ -1,28 +1,29 @@
 -- The search for a set of patterns from C: what the library promises gives what the call promises; and every list of such calls
 -- is a list of calls of the library, so the theorem about these (`whole` of the set crate) holds of what C sees.
 -- Assumes nothing.
-use Prim.Native.Nat.{ℕ, _≤_, _<_}
+use Prim.Native.Nat.{ℕ, zero, suc, _≤_, _<_}
 use mathlib.Core.Path.{_≡_, refl, sym, _∙_, ap}
-use mathlib.Core.Bool.{Bool, true, false}
-use mathlib.Core.List.{List, [], _∷_}
+use mathlib.Core.Bool.{Bool, true, false, cond}
+use mathlib.Core.Logic.{_⊎_, inl, inr}
+use mathlib.Core.List.{List, [], _∷_, _++_}
 use native.Mathlib.Omega.{arith}
 use lib.Dec.{ltb, eqb}
-use lib.ListN.{length, getD}
+use lib.ListN.{length, drop}
 use borrow.Author.Tests.{ltb-false}
 use Rattle.bits.specs.Packed.{Packed}
 use Rattle.rules.specs.Machine.{Ending, done, spent, full}
-use Rattle.search.specs.Verdict.{Verdict, refused, accepted, endingOf}
+use Rattle.search.specs.Verdict.{Row, Verdict, refused, accepted, judge, endingOf}
+use Rattle.search.proofs.Verdict.{judge-accepted}
 use Rattle.set.specs.declared.Answer.{Answer}
 use Rattle.set.specs.declared.Refusal.{Refusal}
-use Rattle.set.specs.declared.Refusal.the-variants.{TextTooLong, TextBytesMissing, SetSize, PatternLength, PatternBytesMissing, FixedBytesMissing, BeyondEnd}
 use Rattle.set.specs.PatternSet.{PatternSet}
 use Rattle.set.specs.SetMachine.{SetRun}
-use Rattle.set.specs.Verdict.{machine, verdict, numberOfRefusal, AcceptedAs, RefusedAs}
+use Rattle.set.specs.Verdict.{Request, rowsFrom, markBeyond, rows, machine, verdict, numberOfRefusal, listAfter, AcceptedAs, RefusedAs, Searched}
 use Rattle.set.specs.Calls as library
 use Rattle.set.proofs.Calls as theorem
 use Rattle.capi.specs.Told.{answerCellsMissing, gives, Tells}
 use Rattle.capi.specs.Scan.{stopNumber}
-use Rattle.capi.specs.PatternSet.{SetCall, setRequest, setVerdict, SetSearched, setCallOf, SetMade, setMarkAfter, AllSetMade, callSeen, callsSeen, setLastMark, SetWhole}
+use Rattle.capi.specs.PatternSet.{SetCall, setRequest, setVerdict, SetSearched, setCallOf, SetMade, setMarkAfter, AllSetMade, stopSeen, refusalSeen, outcomeSeen, callSeen, callsSeen, setLastMark, SetWhole}
 use Rattle.capi.proofs.Telling.{few-cells, enough-cells, refusing}
 
 -- ---- one call
@@ -52,3 +53,145 @@ module _ (q : SetCall) where
           tells = rw v (rw (s .answer .steps, s .answer .occurrences, s .answer .mark, s .answer .ending) at t);
           list-is = rw v (s .list-is);
         }
+
+-- ---- every list of calls
+
+-- what a refusal's number tells: it is neither 0 nor 101, and C reads the refusal off it
+record Numbered (k : ℕ) : Type 0 where
+  read : numberOfRefusal (refusalSeen k) ≡ k
+  some : eqb k 0 ≡ false
+  own : eqb k answerCellsMissing ≡ false
+
+-- each row of a table has such a number
+Each : List Row → Type 0
+Each [] = Unit
+Each (r ∷ l) = Numbered (r .number) × Each l
+
+each-append : (a b : List Row) → Each a → Each b → Each (a ++ b)
+unfolding Each
+each-append [] b p q = q
+each-append (r ∷ a) b p q = (p .0, each-append a b (p .1) q)
+
+given-numbered : {A : Type 0} (a : A) (table : List Row) (k : ℕ) → Each table → judge table a ≡ refused k → Numbered k
+unfolding Each judge
+given-numbered a [] k e h = let z : _≡_ {A = ℕ} 0 1 = cc in absurd (omega arith)
+given-numbered {A} a (r ∷ l) k e h = go (r .holds) (given-numbered a l k (e .1)) h
+  where
+    go : (c : Bool) → (judge l a ≡ refused k → Numbered k) → cond {A = Verdict A} c (refused (r .number)) (judge l a) ≡ refused k → Numbered k
+    go true ih g = let same : r .number ≡ k = cc in rw same at (e .0)
+    go false ih g = ih g
+
+pattern-rows : (ws : PatternSet) (i k : ℕ) → Each (rowsFrom ws i k)
+unfolding rowsFrom Each
+pattern-rows ws i zero = tt
+pattern-rows ws i (suc k) =
+    (record { read = refl; some = refl; own = refl }, (record { read = refl; some = refl; own = refl }, (record { read = refl; some = refl; own = refl }, pattern-rows ws (suc i) k)))
+
+rows-numbered : (t : Packed) (ws : PatternSet) (s : ℕ) → Each (rows t ws s)
+unfolding rows Each
+rows-numbered t ws s = (
+  record { read = refl; some = refl; own = refl },
+  (
+    record { read = refl; some = refl; own = refl },
+    (
+      record { read = refl; some = refl; own = refl },
+      each-append (rowsFrom ws 0 (length (ws .counts))) (markBeyond t ws s ∷ []) (pattern-rows ws 0 (length (ws .counts))) (record { read = refl; some = refl; own = refl }, tt),
+    ),
+  ),
+)
+
+-- a way to stop, read off its number and the mark
+seen-ending : (m : ℕ) (e : Ending) → ((p : ℕ) → e ≡ full p → m ≡ p) → endingOf (stopSeen m (stopNumber e)) ≡ e
+seen-ending m done h = refl
+seen-ending m spent h = refl
+seen-ending m (full p) h = ap full (h p refl)
+
+-- the outcome that C reads off an accepted call, and off a refused one
+accepted-seen : (q : Request) (r : SetRun) (rest list : List ℕ) → r ≡ machine q → verdict q ≡ accepted r → list ≡ listAfter r (q .list)
+    → Searched q (outcomeSeen 0 (r .steps ∷ length (r .written) ∷ r .mark ∷ stopNumber (r .ending) ∷ rest)) list
+accepted-seen q r rest list same v l =
+    let own : verdict q ≡ accepted (machine q) = v ∙ ap {B = Verdict SetRun} accepted same in
+    let left = theorem.accepted-left q own in
+    let mark = ap (λ (o : SetRun). o .mark) same in
+    let ending = ap (λ (o : SetRun). o .ending) same in
+    record {
+      verdict-is = own;
+      answer =
+          record {
+            steps = ap (λ (o : SetRun). o .steps) same;
+            occurrences = ap (λ (o : SetRun). length (o .written)) same;
+            mark = mark;
+            ending = seen-ending (r .mark) (r .ending) (λ p e. mark ∙ left .full-at p (sym ending ∙ e) .0) ∙ ending;
+          };
+      list-is = l ∙ ap (λ (o : SetRun). listAfter o (q .list)) same;
+    }
+
+refused-seen : (q : Request) (k : ℕ) (answer list : List ℕ) → verdict q ≡ refused k → Numbered k → list ≡ q .list
+    → Searched q (outcomeSeen k answer) list
+refused-seen q k answer list v n l = rw (n .some) (record { verdict-is = v ∙ ap {B = Verdict SetRun} refused (sym (n .read)); list-is = l })
+
+module _ (t : Packed) (ws : PatternSet) (s : ℕ) (c : SetMade) where
+  -- the call is one of the library's
+  record Taken : Type 0 where
+    searched : Searched (library.requestOf t ws s (callSeen c .asked)) (outcomeSeen (c .result) (c .answer-after)) (c .list-after)
+    own : eqb (c .result) answerCellsMissing ≡ false
+    mark : setMarkAfter s c ≡ library.markOf s (outcomeSeen (c .result) (c .answer-after))
+
+  taken : SetSearched (setCallOf t ws s (c .asked)) (c .result) (c .list-after) (c .answer-after) → 4 ≤ length (c .asked .answer) → Taken
+  unfolding verdict
+  taken p h = go (setVerdict (setCallOf t ws s (c .asked))) refl
+    where
+      q : Request
+      q = setRequest (setCallOf t ws s (c .asked))
+
+      go : (v : Verdict SetRun) → setVerdict (setCallOf t ws s (c .asked)) ≡ v → Taken
+      go (refused k) e =
+          let is = set-by (setCallOf t ws s (c .asked)) h in
+          let told = rw e at (p .tells) in
+          let n = given-numbered (machine q) (rows t ws s) k (rows-numbered t ws s) (sym is ∙ e) in
+          record {
+            searched = rw (told .result-is) (refused-seen q k (c .answer-after) (c .list-after) (sym is ∙ e) n (rw e at (p .list-is)));
+            own = rw (told .result-is) (n .own);
+            mark = rw (told .result-is, n .some) refl;
+          }
+      go (accepted r) e =
+          let is = set-by (setCallOf t ws s (c .asked)) h in
+          let told = rw e at (p .tells) in
+          let same = judge-accepted (machine q) (rows t ws s) r (sym is ∙ e) .1 in
+          record {
+            searched = rw (told .result-is, told .answer-is) (accepted-seen q r (drop 4 (c .asked .answer)) (c .list-after) same (sym is ∙ e) (rw e at (p .list-is)));
+            own = rw (told .result-is) refl;
+            mark = rw (told .result-is) refl;
+          }
+
+  -- or it got 101 and left the mark
+  each : SetSearched (setCallOf t ws s (c .asked)) (c .result) (c .list-after) (c .answer-after) → (c .result ≡ answerCellsMissing) ⊎ Taken
+  unfolding setVerdict
+  each p = go (ltb (length (c .asked .answer)) 4) refl
+    where
+      go : (b : Bool) → ltb (length (c .asked .answer)) 4 ≡ b → (c .result ≡ answerCellsMissing) ⊎ Taken
+      go true e = inl (rw e at (p .tells .result-is))
+      go false e = inr (taken p (ltb-false (length (c .asked .answer)) 4 e))
+
+record From (t : Packed) (ws : PatternSet) (s : ℕ) (cs : List SetMade) : Type 0 where
+  made : library.Made t ws s (callsSeen cs)
+  mark : setLastMark s cs ≡ library.lastMark s (callsSeen cs)
+
+from : (t : Packed) (ws : PatternSet) (cs : List SetMade) (s : ℕ) → AllSetMade t ws s cs → From t ws s cs
+unfolding callsSeen setLastMark library.lastMark
+from t ws [] s m = record { made = tt; mark = refl }
+from t ws (c ∷ cs) s m = go (from t ws cs) (each t ws s c (m .0))
+  where
+    go : ((z : ℕ) → AllSetMade t ws z cs → From t ws z cs) → (c .result ≡ answerCellsMissing) ⊎ Taken t ws s c → From t ws s (c ∷ cs)
+    go ih (inl e) =
+        let r = ih s (rw e at (m .1)) in
+        record { made = rw e (r .made); mark = rw e (r .mark) }
+    go ih (inr k) =
+        let r = ih (library.markOf s (outcomeSeen (c .result) (c .answer-after))) (rw (k .mark) at (m .1)) in
+        record { made = rw (k .own) (k .searched, r .made); mark = rw (k .own, k .mark) (r .mark) }
+
+-- The theorem: every list of calls from C, the first from mark 0.
+pub set-whole : (t : Packed) (ws : PatternSet) (calls : List SetMade) → AllSetMade t ws 0 calls → SetWhole t ws calls
+set-whole t ws calls m =
+    let f = from t ws calls 0 m in
+    record { made = f .made; whole = theorem.whole t ws (callsSeen calls) (f .made); mark = f .mark }

@@ -23,10 +23,12 @@ use Rattle.rules.specs.Pattern.{Pattern, isFixed, agrees}
 use Rattle.rules.proofs.Ranges.{every-same, eq-or-below}
 use Rattle.matcher.specs.Words.{sameWhere}
 use Rattle.matcher.specs.Lined.{Only}
+use Rattle.matcher.proofs.Words.{head-is}
 use Rattle.matcher.proofs.SingleBits.{weight-power}
 use Rattle.matcher.proofs.LinedCells.{only-none, only-set}
+use Rattle.matcher.specs.Progress.{HeadOf}
 use Rattle.set.specs.PatternSet.{PatternSet, startOf, patternAt}
-use Rattle.set.specs.Fronts.{begins, Flags, Halves, Tables, Starts, front}
+use Rattle.set.specs.Fronts.{begins, Flags, Halves, Tables, front, Kept}
 use Rattle.set.specs.Parts.{GoodSet, HalfEntered, Entered, PairedUp}
 use Rattle.set.proofs.Begins.{begins-parts}
 
@@ -205,18 +207,57 @@ halves-more ws i value care ones before cells few value-is care-is ones-are so-f
     (one-at i few))
     ∙ flags-more ws i (λ w. begins w (4 * g) 4 x) (getD before (16 * g + x) 0) (so-far g x l h) e
 
--- Where each pattern begins
+-- What is kept of each pattern
 
-starts-none : (ws : PatternSet) (starts : List ℕ) → Starts ws 0 starts
-starts-none ws starts j l = absurd (omega arith)
+kept-none : (ws : PatternSet) (rows : List ℕ) → Kept ws 0 rows
+kept-none ws rows = record { starts-are = λ j l. absurd (omega arith); heads-are = λ j l. absurd (omega arith) }
 
-starts-more : (ws : PatternSet) (i start : ℕ) (starts : List ℕ) → i < length starts → start ≡ startOf (ws .counts) i
-    → Starts ws i starts → Starts ws (i + 1) (set starts i start)
-starts-more ws i start starts room is so-far j l = go (eq-or-below (omega arith))
+-- three cells more
+abbrev keptCells : List ℕ → ℕ → ℕ → ℕ → ℕ → List ℕ
+keptCells rows i start head mask = set (set (set rows i start) (64 + i) head) (128 + i) mask
+
+module _ (rows : List ℕ) (i start head mask : ℕ) where
+  kept-size : length (keptCells rows i start head mask) ≡ length rows
+  kept-size = length-set (set (set rows i start) (64 + i) head) (128 + i) mask ∙ length-set (set rows i start) (64 + i) head ∙ length-set rows i start
+
+  kept-other : (z : ℕ) → (z ≡ i → ⊥) → (z ≡ 64 + i → ⊥) → (z ≡ 128 + i → ⊥) → getD (keptCells rows i start head mask) z 0 ≡ getD rows z 0
+  kept-other z a b c =
+      getD-set-other (set (set rows i start) (64 + i) head) (128 + i) z mask 0 c
+      ∙ getD-set-other (set rows i start) (64 + i) z head 0 b
+      ∙ getD-set-other rows i z start 0 a
+
+  module _ (few : i < 64) (room : 192 ≤ length rows) where
+    kept-start : getD (keptCells rows i start head mask) i 0 ≡ start
+    kept-start =
+        getD-set-other (set (set rows i start) (64 + i) head) (128 + i) i mask 0 (λ e. absurd (omega arith))
+        ∙ getD-set-other (set rows i start) (64 + i) i head 0 (λ e. absurd (omega arith))
+        ∙ getD-set-same rows i start 0 (omega arith)
+
+    kept-head : getD (keptCells rows i start head mask) (64 + i) 0 ≡ head
+    kept-head =
+        getD-set-other (set (set rows i start) (64 + i) head) (128 + i) (64 + i) mask 0 (λ e. absurd (omega arith))
+        ∙ getD-set-same (set rows i start) (64 + i) head 0 (omega (arith, length-set rows i start))
+
+    kept-mask : getD (keptCells rows i start head mask) (128 + i) 0 ≡ mask
+    kept-mask = getD-set-same (set (set rows i start) (64 + i) head) (128 + i) mask 0 (omega (arith, length-set (set rows i start) (64 + i) head, length-set rows i start))
+
+kept-more : (ws : PatternSet) (i start head mask : ℕ) (rows : List ℕ) → i < 64 → 192 ≤ length rows → start ≡ startOf (ws .counts) i
+    → HeadOf (patternAt ws i) head mask → Kept ws i rows → Kept ws (i + 1) (keptCells rows i start head mask)
+kept-more ws i start head mask rows few room is head-is so-far =
+    record { starts-are = λ j l. go j (eq-or-below (omega arith)); heads-are = λ j l. there j (eq-or-below (omega arith)) }
   where
-    go : (j ≡ i) ⊎ (j < i) → getD (set starts i start) j 0 ≡ startOf (ws .counts) j
-    go (inl q) = rw q (getD-set-same starts i start 0 room ∙ is)
-    go (inr q) = getD-set-other starts i j start 0 (λ e. absurd (omega arith)) ∙ so-far j q
+    go : (j : ℕ) → (j ≡ i) ⊎ (j < i) → getD (keptCells rows i start head mask) j 0 ≡ startOf (ws .counts) j
+    go j (inl q) = rw q (kept-start rows i start head mask few room ∙ is)
+    go j (inr q) =
+        kept-other rows i start head mask j (λ e. absurd (omega arith)) (λ e. absurd (omega arith)) (λ e. absurd (omega arith))
+        ∙ so-far .starts-are j q
+
+    there : (j : ℕ) → (j ≡ i) ⊎ (j < i) → HeadOf (patternAt ws j) (getD (keptCells rows i start head mask) (64 + j) 0) (getD (keptCells rows i start head mask) (128 + j) 0)
+    there j (inl q) = rw q (rw (kept-head rows i start head mask few room, kept-mask rows i start head mask few room) head-is)
+    there j (inr q) =
+        let first = kept-other rows i start head mask (64 + j) (λ e. absurd (omega arith)) (λ e. absurd (omega arith)) (λ e. absurd (omega arith)) in
+        let second = kept-other rows i start head mask (128 + j) (λ e. absurd (omega arith)) (λ e. absurd (omega arith)) (λ e. absurd (omega arith)) in
+        rw (first, second) (so-far .heads-are j q)
 
 -- the next one begins after the bytes that this one takes
 pub start-next : (counts : List ℕ) (i : ℕ) → startOf counts (i + 1) ≡ startOf counts i + bytesFor (getD counts i 0)
@@ -250,12 +291,12 @@ module _ (ws : PatternSet) (good : GoodSet ws) where
       omega arith
 
 -- the first i patterns are entered, and the next one begins at `start`
-pub record EnteringAll (ws : PatternSet) (i start : ℕ) (starts-before starts halves-before halves : List ℕ) : Type 0 where
+pub record EnteringAll (ws : PatternSet) (i start : ℕ) (rows-before rows halves-before halves : List ℕ) : Type 0 where
   pub inside : i ≤ length (ws .counts)
   pub start-is : start ≡ startOf (ws .counts) i
-  pub starts-are : Starts ws i starts
+  pub kept : Kept ws i rows
   pub halves-are : Halves ws i halves
-  pub starts-size : length starts ≡ length starts-before
+  pub rows-size : length rows ≡ length rows-before
   pub halves-size : length halves ≡ length halves-before
 
 -- what is known of pattern i as its turn comes
@@ -267,20 +308,20 @@ pub record Inside (ws : PatternSet) (i start : ℕ) : Type 0 where
   pub some-bits : 0 < getD (ws .counts) i 0
   pub few-bits : getD (ws .counts) i 0 ≤ 2048
 
-module _ (ws : PatternSet) (starts-before halves-before : List ℕ) where
-  pub entering-none : ((z : ℕ) → getD halves-before z 0 ≡ 0) → EnteringAll ws 0 0 starts-before starts-before halves-before halves-before
+module _ (ws : PatternSet) (rows-before halves-before : List ℕ) where
+  pub entering-none : ((z : ℕ) → getD halves-before z 0 ≡ 0) → EnteringAll ws 0 0 rows-before rows-before halves-before halves-before
   unfolding startOf
   entering-none none =
       record {
         inside = omega arith;
         start-is = refl;
-        starts-are = starts-none ws starts-before;
+        kept = kept-none ws rows-before;
         halves-are = halves-none ws halves-before none;
-        starts-size = refl;
+        rows-size = refl;
         halves-size = refl;
       }
 
-  module _ (good : GoodSet ws) (i start : ℕ) (starts halves : List ℕ) (so-far : EnteringAll ws i start starts-before starts halves-before halves) (l : i < length (ws .counts)) where
+  module _ (good : GoodSet ws) (i start : ℕ) (rows halves : List ℕ) (so-far : EnteringAll ws i start rows-before rows halves-before halves) (l : i < length (ws .counts)) where
     pub entering-inside : Inside ws i start
     entering-inside =
         record {
@@ -292,27 +333,30 @@ module _ (ws : PatternSet) (starts-before halves-before : List ℕ) where
           few-bits = good .each i l .few-bits;
         }
 
-    pub entering-more : (value care ones : ℕ) (halves' : List ℕ) → 64 ≤ length starts-before
+    pub entering-more : (value care ones : ℕ) (halves' : List ℕ) → 192 ≤ length rows-before → ones < 2 ^ 64
         → value ≡ bitsAt (drop start (ws .bytes)) 0 64 → care ≡ bitAnd (bitsAt (drop start (ws .fixed)) 0 64) ones
         → ((j : ℕ) → j < 64 → bitOf 64 ones j ≡ cond (ltb j (min (getD (ws .counts) i 0) 57)) 1 0)
         → Entered value care ((1 * 2 ^ i) % 2 ^ 64) halves halves'
-        → EnteringAll ws (i + 1) (start + bytesFor (getD (ws .counts) i 0)) starts-before (set starts i start) halves-before halves'
-    entering-more value care ones halves' room value-is care-is ones-are new =
+        → EnteringAll ws (i + 1) (start + bytesFor (getD (ws .counts) i 0)) rows-before (keptCells rows i start (bitAnd value care) care) halves-before halves'
+    entering-more value care ones halves' room small value-is care-is ones-are new =
         record {
           inside = omega arith;
           start-is = ap (λ (z : ℕ). z + bytesFor (getD (ws .counts) i 0)) (so-far .start-is) ∙ sym (start-next (ws .counts) i);
-          starts-are = starts-more ws i start starts (omega (arith, so-far .starts-size, entering-inside .few)) (so-far .start-is) (so-far .starts-are);
+          kept =
+              kept-more ws i start (bitAnd value care) care rows (entering-inside .few) (omega (arith, so-far .rows-size)) (so-far .start-is)
+              (rw care-is (head-is (drop (startOf (ws .counts) i) (ws .bytes)) (drop (startOf (ws .counts) i) (ws .fixed)) (getD (ws .counts) i 0) (rw (so-far .start-is) at value-is) (ap (λ (a : ℕ). bitsAt (drop a (ws .fixed)) 0 64) (so-far .start-is)) small ones-are))
+              (so-far .kept);
           halves-are = halves-more ws i value care ones halves halves' (entering-inside .few) (rw (so-far .start-is) at value-is) (rw (so-far .start-is) at care-is) ones-are (so-far .halves-are) new;
-          starts-size = length-set starts i start ∙ so-far .starts-size;
+          rows-size = kept-size rows i start (bitAnd value care) care ∙ so-far .rows-size;
           halves-size = new .size ∙ so-far .halves-size;
         }
 
 -- when all have had their turn
-pub entering-all : {i start : ℕ} {starts-before starts halves-before halves : List ℕ} (ws : PatternSet) → EnteringAll ws i start starts-before starts halves-before halves
-    → length (ws .counts) ≤ i → Starts ws (length (ws .counts)) starts × Halves ws (length (ws .counts)) halves
+pub entering-all : {i start : ℕ} {rows-before rows halves-before halves : List ℕ} (ws : PatternSet) → EnteringAll ws i start rows-before rows halves-before halves
+    → length (ws .counts) ≤ i → Kept ws (length (ws .counts)) rows × Halves ws (length (ws .counts)) halves
 entering-all {i} ws so-far h =
     let whole : i ≡ length (ws .counts) = omega arith in
-    (rw whole at (so-far .starts-are), rw whole at (so-far .halves-are))
+    (rw whole at (so-far .kept), rw whole at (so-far .halves-are))
 
 -- The words of eight bits
 

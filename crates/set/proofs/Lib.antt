@@ -3,8 +3,15 @@ pub mod Hits
 pub mod SetMachine
 pub mod Rows
 pub mod Calls
+pub mod Single
+pub mod Order
+pub mod Examples
+pub mod Progress
+pub mod Padding
 pub mod Begins
 pub mod Entering
 pub mod Scanning
 pub mod Standing
+pub mod Listing
 pub mod Running
+pub mod Blocks

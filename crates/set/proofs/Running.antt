@@ -1,10 +1,10 @@
--- The loop of a call: the hits of the places passed stand in the list; and what it leaves at its ends is what the machine comes
--- to.
+-- The loops of a call: the hits of the places passed stand in the list; and what they leave at their ends is what the machine
+-- comes to.
 -- Assumes nothing.
 use Prim.Native.Nat.{ℕ, suc, _+_, _-_, _*_, _/_, _≤_, _<_, min}
 use mathlib.Core.Path.{_≡_, refl, sym, ap, _∙_}
 use mathlib.Core.Bool.{Bool, true, false}
-use mathlib.Core.List.{List, _++_, map, append-nil}
+use mathlib.Core.List.{List, [], _++_, map, append-nil}
 use native.Mathlib.Nat.{add-zero, zero-add}
 use native.Mathlib.Omega.{arith}
 use lib.ListN.{length, take, drop, length-append}
@@ -19,11 +19,10 @@ use Rattle.set.specs.PatternSet.{PatternSet, setPlaces}
 use Rattle.set.specs.Hits.{Hit, hitAt, standing, hitsAt, allHits, cellsOf}
 use Rattle.set.specs.SetMachine.{SetRun, halted, noRoom, onward, setRun}
 use Rattle.set.specs.Verdict.{roomIn, listAfter}
-use Rattle.set.specs.Fronts.{Tables}
-use Rattle.set.specs.Parts.{NoneIn, PairsWritten, Ran, Tells, Leaves}
-use Rattle.set.proofs.Hits.{all-none, all-more, all-further, length-at}
+use Rattle.set.specs.Parts.{PairsWritten, Listing, Ran, Tells, Leaves}
+use Rattle.set.proofs.Hits.{all-append, all-none, all-one, all-further, length-at}
 use Rattle.set.proofs.SetMachine.{run-to-limit, run-to-full}
-use Rattle.set.proofs.Standing.{none-standing, cells-append, cells-length}
+use Rattle.set.proofs.Standing.{cells-append, cells-length}
 
 -- the numbers found are the front of the cells that hold them
 found-front : (before found numbers : List ℕ) (count : ℕ) → Writing before 0 found numbers count → take count numbers ≡ found
@@ -32,58 +31,56 @@ found-front before found numbers count u =
     let whole : numbers ≡ found ++ drop (0 + length found) before = u .cells ∙ sets-eq found before 0 (omega (arith, u .fits)) in
     rw whole (take-at found (drop (0 + length found) before) count size)
 
--- the places from s on and before `at` are passed, and the pairs of their hits stand in front
-pub record Running (t : Packed) (ws : PatternSet) (s end : ℕ) (before list : List ℕ) (at hits : ℕ) : Type 0 where
-  pub from : s ≤ at
-  pub upto : at ≤ end
-  pub cells : list ≡ sets before 0 (cellsOf (allHits t ws s at))
-  pub count : hits ≡ length (allHits t ws s at)
-  pub fits : hits ≤ roomIn before
+-- what is passed and listed
 
-module _ (t : Packed) (ws : PatternSet) (s end : ℕ) (before : List ℕ) where
-  pub running-none : s ≤ end → Running t ws s end before before s 0
-  unfolding cellsOf
-  running-none h = record { from = omega arith; upto = h; cells = rw (all-none t ws s) refl; count = rw (all-none t ws s) refl; fits = omega arith }
+pub listing-none : (t : Packed) (ws : PatternSet) (s had : ℕ) (before : List ℕ) → had ≤ roomIn before → Listing t ws s before had before s had
+unfolding cellsOf
+listing-none t ws s had before h =
+    record { from = omega arith; cells = rw (all-none t ws s) refl; count = rw (all-none t ws s) (omega arith); fits = h }
 
-  module _ (list : List ℕ) (at hits : ℕ) (g : Running t ws s end before list at hits) where
-    pub running-length : length list ≡ length before
-    running-length = ap length (g .cells) ∙ length-sets before 0 (cellsOf (allHits t ws s at))
+module _ (t : Packed) (ws : PatternSet) (s : ℕ) (before : List ℕ) (had : ℕ) (list : List ℕ) (at hits : ℕ) (g : Listing t ws s before had list at hits) where
+  pub listing-length : length list ≡ length before
+  listing-length = ap length (g .cells) ∙ length-sets before (2 * had) (cellsOf (allHits t ws s at))
 
-    -- no pattern begins before p
-    pub running-skip : (tables : List ℕ) (p : ℕ) → Tables ws tables → NoneIn (t .bytes) tables at p → at ≤ p → p ≤ end
-        → Running t ws s end before list p hits
-    running-skip tables p made none up top =
-        let same = all-further t ws s at p (g .from) up (λ q l u. none-standing t ws tables made q (none q l u)) in
-        record {
-          from = omega (arith, g .from);
-          upto = top;
-          cells = rw (← same) (g .cells);
-          count = rw (← same) (g .count);
-          fits = g .fits;
-        }
+  -- no pattern stands before p
+  pub listing-skip : (p : ℕ) → at ≤ p → ((q : ℕ) → at ≤ q → q < p → standing t ws q ≡ []) → Listing t ws s before had list p hits
+  listing-skip p up none =
+      let same = all-further t ws s at p (g .from) up none in
+      record { from = omega (arith, g .from); cells = rw (← same) (g .cells); count = rw (← same) (g .count); fits = g .fits }
 
-    -- the hits at the place are written after the others
-    pub running-more : (old numbers list' : List ℕ) (more : ℕ) → Writing old 0 (standing t ws at) numbers more
-        → PairsWritten list hits at (take more numbers) list' → more ≤ roomIn before - hits → at < end
-        → Running t ws s end before list' (at + 1) (hits + more)
-    unfolding hitsAt
-    running-more old numbers list' more found written room inside =
-        let one : at + 1 ≡ suc at = omega arith in
-        let all = all-more t ws s at (g .from) in
-        let here : map (hitAt at) (take more numbers) ≡ hitsAt t ws at = ap (map (hitAt at)) (found-front old (standing t ws at) numbers more found) in
-        let after : 0 + length (cellsOf (allHits t ws s at)) ≡ 2 * hits = omega (arith, cells-length (allHits t ws s at), g .count) in
-        record {
-          from = omega (arith, g .from);
-          upto = omega arith;
-          cells =
-              written
-              ∙ (λ i. sets (g .cells i) (sym after i) (cellsOf (here i)))
-              ∙ sym (sets-append before 0 (cellsOf (allHits t ws s at)) (cellsOf (hitsAt t ws at)))
-              ∙ ap (sets before 0) (sym (cells-append (allHits t ws s at) (hitsAt t ws at)) ∙ ap cellsOf (sym all))
-              ∙ ap (λ (n : ℕ). sets before 0 (cellsOf (allHits t ws s n))) (sym one);
-          count = rw one (omega (arith, g .count, found .count, ap length all, length-append (allHits t ws s at) (hitsAt t ws at), length-at t ws at));
-          fits = omega (arith, g .fits);
-        }
+  -- further places are passed, and their hits written after those
+  pub listing-append : (list' : List ℕ) (at' hits' : ℕ) → Listing t ws at list hits list' at' hits' → Listing t ws s before had list' at' hits'
+  listing-append list' at' hits' more =
+      let all = all-append t ws s at at' (g .from) (more .from) in
+      let after : 2 * had + length (cellsOf (allHits t ws s at)) ≡ 2 * hits = omega (arith, cells-length (allHits t ws s at), g .count) in
+      record {
+        from = omega (arith, g .from, more .from);
+        cells =
+            more .cells
+            ∙ (λ i. sets (g .cells i) (sym after i) (cellsOf (allHits t ws at at')))
+            ∙ sym (sets-append before (2 * had) (cellsOf (allHits t ws s at)) (cellsOf (allHits t ws at at')))
+            ∙ ap (sets before (2 * had)) (sym (cells-append (allHits t ws s at) (allHits t ws at at')) ∙ ap cellsOf (sym all));
+        count = omega (arith, g .count, more .count, ap length all, length-append (allHits t ws s at) (allHits t ws at at'));
+        fits = omega (arith, more .fits, listing-length);
+      }
+
+  -- the hits at the place are written after the others
+  pub listing-more : (old numbers list' : List ℕ) (more : ℕ) → Writing old 0 (standing t ws at) numbers more
+      → PairsWritten list hits at (take more numbers) list' → more ≤ roomIn before - hits → Listing t ws s before had list' (at + 1) (hits + more)
+  unfolding hitsAt
+  listing-more old numbers list' more found written room =
+      let one : at + 1 ≡ suc at = omega arith in
+      let here : map (hitAt at) (take more numbers) ≡ allHits t ws at (suc at) =
+      ap (map (hitAt at)) (found-front old (standing t ws at) numbers more found) ∙ sym (all-one t ws at) in
+      let size : length (allHits t ws at (suc at)) ≡ more = ap length (all-one t ws at) ∙ length-at t ws at ∙ sym (zero-add _) ∙ sym (found .count) in
+      rw one
+      (listing-append list' (suc at) (hits + more)
+      (record {
+        from = omega arith;
+        cells = written ∙ ap (λ (l : List Hit). sets list (2 * hits) (cellsOf l)) here;
+        count = omega arith;
+        fits = omega (arith, g .fits, listing-length);
+      }))
 
 -- ---- the ends
 
@@ -101,7 +98,7 @@ module _ (t : Packed) (ws : PatternSet) (s budget : ℕ) (before : List ℕ) whe
         list-is = e ∙ ap (λ (o : SetRun). listAfter o before) (sym is);
       }
 
-  module _ (end at hits : ℕ) (list : List ℕ) (g : Running t ws s end before list at hits) where
+  module _ (at hits : ℕ) (list : List ℕ) (g : Listing t ws s before 0 list at hits) where
     -- the pairs in front, and the cells after them
     front-is : list ≡ cellsOf (allHits t ws s at) ++ drop (2 * length (allHits t ws s at)) before
     front-is =
@@ -117,7 +114,7 @@ module _ (t : Packed) (ws : PatternSet) (s budget : ℕ) (before : List ℕ) whe
         ran-is list at (at - s) hits false _
         (run-to-limit t ws budget s (roomIn before) at h is (omega (arith, g .count, g .fits)))
         (sym (add-zero (at - s)))
-        (rw append-nil (g .count))
+        (rw append-nil (g .count ∙ zero-add _))
         refl
         refl
         (rw append-nil front-is)
@@ -130,7 +127,7 @@ module _ (t : Packed) (ws : PatternSet) (s budget : ℕ) (before : List ℕ) whe
         ran-is list at (at - s) hits true _
         (run-to-full t ws budget s (roomIn before) at (g .from) u (omega (arith, g .count, g .fits)) (omega (arith, g .count, length-at t ws at)))
         (sym (add-zero (at - s)))
-        (rw append-nil (g .count))
+        (rw append-nil (g .count ∙ zero-add _))
         refl
         refl
         (rw append-nil front-is)

@@ -1,7 +1,7 @@
 -- Laws of what stands at a place: a pattern that occurs begins there, and so has its flag; flags taken lowest first give the
 -- patterns that stand; and their pairs are written one after the other.
 -- Assumes nothing.
-use Prim.Native.Nat.{ℕ, suc, _+_, _-_, _*_, _/_, _^_, _≤_, _<_}
+use Prim.Native.Nat.{ℕ, suc, _+_, _-_, _*_, _/_, _^_, _≤_, _<_, min}
 use mathlib.Core.Path.{_≡_, refl, sym, ap, ap₂, _∙_}
 use mathlib.Core.Bool.{Bool, true, false, _&&_, cond}
 use mathlib.Core.List.{List, [], _∷_, _++_, map, map-append, append-nil}
@@ -15,16 +15,16 @@ use lib.Pow.{shr-shr}
 use lib.Seq.{sets, take-suc}
 use borrow.Rule.Slice.PartAt.{part-to-end}
 use borrow.Author.Tests.{ltb-true, lt-ltb}
-use Rattle.bits.specs.Packed.{Packed, weight, bitAt, bitsAt}
+use Rattle.bits.specs.Packed.{Packed, weight, bitOf, bitAt, bitsAt}
 use Rattle.bits.proofs.Weight.{weight-shr, weight-zero}
 use Rattle.bits.proofs.Run.{bits-lt, bit-of-bits}
 use Rattle.rules.specs.declared.Method.the-variants.{Plain}
-use Rattle.rules.specs.Ranges.{keep, among}
+use Rattle.rules.specs.Ranges.{every, keep, among}
 use Rattle.rules.specs.Pattern.{Pattern, agrees}
 use Rattle.rules.specs.Occurrence.{matches, occurs}
 use Rattle.rules.proofs.Ranges.{and-left, and-right, and-both, implies-to, to-implies, not-true-false, every-at, to-every, among-append, among-none, among-length}
 use Rattle.rules.proofs.Occurrence.{to-matches, occurs-iff, occurs-inside, none-from-places}
-use Rattle.matcher.specs.Progress.{textOf, patternOf, GoodPattern, Writing}
+use Rattle.matcher.specs.Progress.{textOf, patternOf, HeadOf, GoodPattern, Writing}
 use Rattle.matcher.proofs.SingleBits.{trailing-below, trailing-at, trailing-lt}
 use Rattle.matcher.proofs.Writing.{writing-none, writing-more, sets-append}
 use Rattle.set.specs.PatternSet.{PatternSet, startOf, patternAt}
@@ -78,18 +78,31 @@ start-inside ws i good =
     let in-fixed = length-drop (startOf (ws .counts) i) (ws .fixed) in
     (omega (arith, good .some-bits, good .bytes-there), omega (arith, good .some-bits, good .fixed-there))
 
--- the two runs from there on are the pattern's
-pub stands-from : (t : Packed) (ws : PatternSet) (i start p : ℕ) (r : Bool) → start ≡ startOf (ws .counts) i → p + getD (ws .counts) i 0 ≤ t .count
-    → r
-    ≡ matches (textOf (t .bytes) 0)
-    (patternOf (take (length (ws .bytes) - start) (drop start (ws .bytes))) (take (length (ws .fixed) - start) (drop start (ws .fixed))) (getD (ws .counts) i 0)) p
-    → r ≡ occurs t (patternAt ws i) p
-stands-from t ws i start p r e h same =
-    same
-    ∙ ap₂ (λ (a b : List ℕ). matches (textOf (t .bytes) 0) (patternOf a b (getD (ws .counts) i 0)) p)
-    (part-to-end (ws .bytes) start ∙ ap (λ (a : ℕ). drop a (ws .bytes)) e)
-    (part-to-end (ws .fixed) start ∙ ap (λ (a : ℕ). drop a (ws .fixed)) e)
-    ∙ stands-whole t (patternAt ws i) p h
+-- The two runs from its first byte on are the pattern's
+
+module _ (ws : PatternSet) (i start : ℕ) (e : start ≡ startOf (ws .counts) i) where
+  from-start : patternOf (take (length (ws .bytes) - start) (drop start (ws .bytes))) (take (length (ws .fixed) - start) (drop start (ws .fixed))) (getD (ws .counts) i 0)
+      ≡ patternAt ws i
+  from-start =
+      ap₂ (λ (a b : List ℕ). patternOf a b (getD (ws .counts) i 0))
+      (part-to-end (ws .bytes) start ∙ ap (λ (a : ℕ). drop a (ws .bytes)) e)
+      (part-to-end (ws .fixed) start ∙ ap (λ (a : ℕ). drop a (ws .fixed)) e)
+
+  -- so is their head
+  pub head-from : (head mask : ℕ) → HeadOf (patternAt ws i) head mask
+      → HeadOf
+      (patternOf (take (length (ws .bytes) - start) (drop start (ws .bytes))) (take (length (ws .fixed) - start) (drop start (ws .fixed))) (getD (ws .counts) i 0))
+      head mask
+  head-from head mask h x = h x ∙ ap (λ (w : Pattern). every (min (w .count) 57) (λ j. agrees w j (bitOf 64 x j))) (sym from-start)
+
+  -- and it stands where they do
+  pub stands-from : (t : Packed) (p : ℕ) (r : Bool) → p + getD (ws .counts) i 0 ≤ t .count
+      → r
+      ≡ matches (textOf (t .bytes) 0)
+      (patternOf (take (length (ws .bytes) - start) (drop start (ws .bytes))) (take (length (ws .fixed) - start) (drop start (ws .fixed))) (getD (ws .counts) i 0)) p
+      → r ≡ occurs t (patternAt ws i) p
+  stands-from t p r h same =
+      same ∙ ap (λ (w : Pattern). matches (textOf (t .bytes) 0) w p) from-start ∙ stands-whole t (patternAt ws i) p h
 
 -- Flags of the patterns that begin at p
 

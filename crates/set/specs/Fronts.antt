@@ -1,5 +1,5 @@
 -- The tables of a set: which patterns begin with given bits, a flag for each pattern.
-use Prim.Native.Nat.{ℕ, _+_, _*_, _/_, _%_, _^_, _<_}
+use Prim.Native.Nat.{ℕ, _+_, _*_, _/_, _%_, _^_, _≤_, _<_}
 use mathlib.Core.Path.{_≡_}
 use mathlib.Core.Bool.{Bool, _&&_, cond}
 use mathlib.Core.List.{List}
@@ -9,6 +9,7 @@ use lib.ListN.{length, getD}
 use Rattle.bits.specs.Packed.{weight, bitOf}
 use Rattle.rules.specs.Ranges.{implies, every}
 use Rattle.rules.specs.Pattern.{Pattern, agrees}
+use Rattle.matcher.specs.Progress.{HeadOf}
 use Rattle.set.specs.PatternSet.{PatternSet, startOf, patternAt}
 
 -- the pattern's bits from bit `from` on agree with the k bits of x, as far as the pattern goes
@@ -33,6 +34,14 @@ front tables v =
     bitAnd (bitAnd (getD tables (v / 2 ^ 24) 0) (getD tables (256 + v / 2 ^ 16 % 256) 0))
     (bitAnd (getD tables (512 + v / 2 ^ 8 % 256) 0) (getD tables (768 + v % 256) 0))
 
--- the byte at which each of the first k patterns begins
-abbrev pub Starts : PatternSet → ℕ → List ℕ → Type 0
-Starts ws k starts = (i : ℕ) → i < k → getD starts i 0 ≡ startOf (ws .counts) i
+-- What is kept of each pattern, in three times 64 cells: the byte at which it begins, its head and the head's mask. The first
+-- k patterns have theirs.
+pub record Kept (ws : PatternSet) (k : ℕ) (rows : List ℕ) : Type 0 where
+  pub starts-are : (i : ℕ) → i < k → getD rows i 0 ≡ startOf (ws .counts) i
+  pub heads-are : (i : ℕ) → i < k → HeadOf (patternAt ws i) (getD rows (64 + i) 0) (getD rows (128 + i) 0)
+
+-- What the lengths tell: before the place `until` every pattern fits, and a pattern without a flag in `long` has at most the 32
+-- bits that the tables compare.
+pub record Lengths (n : ℕ) (counts : List ℕ) (until long : ℕ) : Type 0 where
+  pub fits : (p i : ℕ) → p < until → i < length counts → p + getD counts i 0 ≤ n
+  pub short : (i : ℕ) → i < length counts → weight long i ≡ 0 → getD counts i 0 ≤ 32

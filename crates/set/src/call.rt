@@ -3,17 +3,19 @@ use crate::Answer;
 use crate::check;
 use crate::scan;
 use crate::step;
+use crate::step::Sure;
 use crate::tables;
 use bits::Place;
+use bits::load;
 use search::Mark;
 use search::Stop;
 ghost use mathlib.Core.Path.{_≡_};
-ghost use Prim.Native.Nat.{_+_, _^_, _≤_, _<_, min};
+ghost use Prim.Native.Nat.{_+_, _/_, _≤_, min};
 ghost use lib.ListN.{length};
 ghost use Rattle.matcher.specs.Progress.{textOf};
 ghost use Rattle.set.specs.PatternSet.{setPlaces};
-ghost use Rattle.set.specs.Fronts.{Tables, Starts};
-ghost use Rattle.set.specs.Parts.{setOf, Allowed, Ran, Tells, Leaves};
+ghost use Rattle.set.specs.Fronts.{Tables, Kept, Lengths};
+ghost use Rattle.set.specs.Parts.{setOf, Allowed, Blocked, BlockPassed, Ran, Tells, Leaves};
 
 // What the steps of a call leave: the mark, the steps made, the pairs written, and whether a place's pairs found no room.
 pub struct Left {
@@ -35,40 +37,49 @@ fn reach(s: Place, end: Place, budget: u32) -> Place
     end
 }
 
-// Steps from s until the places, the budget or the room for pairs are at an end. The steps of places before a candidate find
-// nothing; if its pairs do not all fit, its step is not one of them.
-fn run(
-    s: Place,
+// What a block of places leaves: the same without the steps.
+struct Passage {
+    pub at: Place,
+    pub hits: usize,
+    pub full: bool,
+}
+
+// The places of a block of 32 that begins at `base`, those from `from` on and before `to`: at each with some flag the hits are
+// written, if they all fit.
+fn block(
     text: &[u8],
     n: u32,
     patterns: &[u8],
     fixed: &[u8],
     counts: &[u64],
-    starts: &[usize],
-    cells: &[u64],
-    end: Place,
-    budget: u32,
+    rows: &[u64],
+    sure: Sure,
+    found: &[u64],
+    base: Place,
+    from: Place,
+    to: Place,
     list: &mut [u32],
-) -> Left
-    requires { ⌜ Allowed (textOf (now text) n) (setOf (now patterns) (now fixed) (now counts)) (s .0) ⌝ }
-    requires { ⌜ Starts (setOf (now patterns) (now fixed) (now counts)) (length (now counts)) (now starts) × (length (now counts) ≤ length (now starts)) ⌝ }
-    requires { ⌜ Tables (setOf (now patterns) (now fixed) (now counts)) (now cells) × (1024 ≤ length (now cells)) ⌝ }
-    requires { ⌜ end .0 ≡ setPlaces (textOf (now text) n) (setOf (now patterns) (now fixed) (now counts)) ⌝ }
-    ensures { λ r. ⌜ Ran (textOf (now (text .entry)) n) (setOf (now (patterns .entry)) (now (fixed .entry)) (now (counts .entry))) (s .0) budget (now (list .entry)) (r .at .0) (r .steps) (r .hits) (r .full) (now (list .exit)) ⌝ }
+    had: usize,
+) -> Passage
+    requires { ⌜ Blocked (textOf (now text) n) (setOf (now patterns) (now fixed) (now counts)) (now rows) (sure .until) (sure .long) (now found) (base .0) (from .0) (to .0) ⌝ }
+    requires { ⌜ had ≤ length (now list) / 2 ⌝ }
+    ensures { λ r. ⌜ BlockPassed (textOf (now (text .entry)) n) (setOf (now (patterns .entry)) (now (fixed .entry)) (now (counts .entry))) (from .0) (to .0) (now (list .entry)) had (r .at .0) (r .hits) (r .full) (now (list .exit)) ⌝ }
 {
     let mut numbers = [0u32; 64];
-    let limit = reach(s, end, budget);
-    let last = limit.0;
     let room = list.len() / 2;
-    let mut at = s.0;
-    let mut hits = 0usize;
-    while at < last {
-        let c = scan::candidate(text, cells, Place(at), limit);
-        let p = c.0;
-        if last <= p {
-            return Left {
-                at: limit,
-                steps: last - s.0,
+    let start = base.0;
+    let mut next = from.0 - start;
+    let mut m = scan::marks(found) >> next;
+    let mut hits = had;
+    while m != 0 {
+        let z = u64::trailing_zeros(m);
+        let e = next + z;
+        m = (m >> z) >> 1;
+        next = e + 1;
+        let p = Place(start + e);
+        if to.0 <= p.0 {
+            return Passage {
+                at: to,
                 hits: hits,
                 full: false,
             };
@@ -79,22 +90,91 @@ fn run(
             patterns,
             fixed,
             counts,
-            starts,
-            cells,
-            c,
+            rows,
+            sure,
+            p,
+            found[e as usize],
             &mut numbers,
         );
         if room - hits < count {
-            return Left {
-                at: c,
-                steps: p - s.0,
+            return Passage {
+                at: p,
                 hits: hits,
                 full: true,
             };
         }
-        step::write(list, hits, c, &numbers, count);
+        step::write(list, hits, p, &numbers, count);
         hits += count;
-        at = p + 1;
+    }
+    Passage {
+        at: to,
+        hits: hits,
+        full: false,
+    }
+}
+
+// Steps from s until the places, the budget or the room for pairs are at an end, 32 places at a time. The steps of places
+// without a flag find nothing; if the pairs of a place do not all fit, its step is not one of them.
+fn run(
+    s: Place,
+    text: &[u8],
+    n: u32,
+    patterns: &[u8],
+    fixed: &[u8],
+    counts: &[u64],
+    rows: &[u64],
+    sure: Sure,
+    cells: &[u64],
+    end: Place,
+    budget: u32,
+    list: &mut [u32],
+) -> Left
+    requires { ⌜ Allowed (textOf (now text) n) (setOf (now patterns) (now fixed) (now counts)) (s .0) ⌝ }
+    requires { ⌜ Kept (setOf (now patterns) (now fixed) (now counts)) (length (now counts)) (now rows) × (192 ≤ length (now rows)) ⌝ }
+    requires { ⌜ Lengths n (now counts) (sure .until) (sure .long) ⌝ }
+    requires { ⌜ Tables (setOf (now patterns) (now fixed) (now counts)) (now cells) × (1024 ≤ length (now cells)) ⌝ }
+    requires { ⌜ end .0 ≡ setPlaces (textOf (now text) n) (setOf (now patterns) (now fixed) (now counts)) ⌝ }
+    ensures { λ r. ⌜ Ran (textOf (now (text .entry)) n) (setOf (now (patterns .entry)) (now (fixed .entry)) (now (counts .entry))) (s .0) budget (now (list .entry)) (r .at .0) (r .steps) (r .hits) (r .full) (now (list .exit)) ⌝ }
+{
+    let mut found = [0u64; 32];
+    let limit = reach(s, end, budget);
+    let last = limit.0;
+    let mut at = s.0;
+    let mut hits = 0usize;
+    while at < last {
+        let from = Place(at);
+        let b = from.byte();
+        let base = b.place();
+        let any = scan::look(cells, load::word_at_byte(text, b), &mut found);
+        let to = reach(base, limit, 32);
+        at = to.0;
+        if any != 0 {
+            let one = block(
+                text,
+                n,
+                patterns,
+                fixed,
+                counts,
+                rows,
+                sure,
+                &found,
+                base,
+                from,
+                to,
+                list,
+                hits,
+            );
+            hits = one.hits;
+            if one.full {
+                let stop = one.at;
+                return Left {
+                    at: stop,
+                    steps: stop.0 - s.0,
+                    hits: hits,
+                    full: true,
+                };
+            }
+        }
     }
     Left {
         at: limit,
@@ -149,12 +229,13 @@ pub fn accepted(
     requires { ⌜ Allowed (textOf (now text) n) (setOf (now patterns) (now fixed) (now counts)) (mark .0) ⌝ }
     ensures { λ r. ⌜ Leaves (textOf (now (text .entry)) n) (setOf (now (patterns .entry)) (now (fixed .entry)) (now (counts .entry))) (mark .0) budget (now (list .entry)) r (now (list .exit)) ⌝ }
 {
-    let mut starts = [0usize; 64];
+    let mut rows = [0u64; 192];
     let mut halves = [0u64; 128];
     let mut cells = [0u64; 1024];
-    tables::enter_all(patterns, fixed, counts, &mut starts, &mut halves);
+    tables::enter_all(patterns, fixed, counts, &mut rows, &mut halves);
     tables::pair_up(&halves, &mut cells);
     let end = Place(check::places(n as u64, counts) as u32);
+    let sure = check::sure(n, counts);
     let left = run(
         mark,
         text,
@@ -162,7 +243,8 @@ pub fn accepted(
         patterns,
         fixed,
         counts,
-        &starts,
+        &rows,
+        sure,
         &cells,
         end,
         budget,

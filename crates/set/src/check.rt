@@ -1,13 +1,17 @@
 // Refusals 1, 2, 18, then 3, 4 and 17 for each pattern in turn, and 6.
 use crate::Refusal;
+use crate::step::Sure;
 use bits::Place;
 ghost use mathlib.Core.Path.{_≡_};
-ghost use Prim.Native.Nat.{_+_, _-_, _^_, _≤_, max};
+ghost use mathlib.Core.Bool.{cond};
+ghost use Prim.Native.Nat.{_+_, _-_, _^_, _≤_, _<_, max};
+ghost use lib.Dec.{ltb};
 ghost use lib.ListN.{length, getD};
 ghost use Rattle.matcher.specs.Progress.{textOf};
 ghost use Rattle.search.specs.Verdict.{judge};
 ghost use Rattle.set.specs.PatternSet.{patternFrom, largest};
 ghost use Rattle.set.specs.Verdict.{patternRows, rows};
+ghost use Rattle.set.specs.Fronts.{Lengths};
 ghost use Rattle.set.specs.Parts.{setOf, checkOf};
 
 // Whether a call is refused.
@@ -43,6 +47,34 @@ pub fn places(n: u64, counts: &[u64]) -> u64
         i += 1;
     }
     most
+}
+
+// The flag of pattern i where its m bits are more than the tables compare.
+fn long_flag(m: u64, i: usize) -> u64
+    requires { ⌜ i < 64 ⌝ }
+    ensures { λ r. ⌜ r ≡ cond (ltb 32 m) (2 ^ i) 0 ⌝ }
+{
+    if 32 < m { 1 << i } else { 0 }
+}
+
+// What the lengths of the patterns tell.
+pub fn sure(n: u32, counts: &[u64]) -> Sure
+    requires { ⌜ (n ≤ 2 ^ 30) × (length (now counts) ≤ 64) ⌝ }
+    ensures { λ r. ⌜ Lengths n (now (counts .entry)) (r .until) (r .long) ⌝ }
+{
+    let mut longest = 0u64;
+    let mut long = 0u64;
+    let mut i = 0usize;
+    while i < counts.len() {
+        let m = counts[i];
+        longest = larger(longest, m);
+        long = long | long_flag(m, i);
+        i += 1;
+    }
+    Sure {
+        until: places_of(n as u64, longest) as u32,
+        long: long,
+    }
 }
 
 // Refusals 3, 4 and 17 of the pattern of m bits that begins at byte `start`.

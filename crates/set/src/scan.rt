@@ -1,56 +1,63 @@
-// The places that the tables do not rule out.
-use crate::tables;
-use bits::ByteNo;
-use bits::Place;
-use bits::load;
+// The flags of 32 places at a time: which patterns begin there, by their first 32 bits. From each of the eight offsets in a
+// byte seven whole bytes lie in 64 bits, and the four places at that offset share them: place j has bytes j to j + 3.
 ghost use mathlib.Core.Path.{_≡_};
-ghost use Prim.Native.Nat.{ℕ, _+_, _-_, _*_, _/_, _%_, _^_, _≤_, _<_};
+ghost use Prim.Native.Nat.{_≤_, _<_};
 ghost use lib.ListN.{length};
-ghost use Rattle.set.specs.Fronts.{front};
-ghost use Rattle.set.specs.Parts.{NoneIn};
+ghost use Rattle.set.specs.Parts.{FourFound, Looked, Marked};
 
-// The first offset from `from` on in the first of eight bytes where some flag stands, or 8.
-fn first_offset(tables: &[u64], bytes: u64, from: u32) -> u32
-    requires { ⌜ (1024 ≤ length (now tables)) × (from ≤ 8) ⌝ }
-    ensures { λ r. ⌜ (from ≤ r) × (r ≤ 8) × ((i : ℕ) → from ≤ i → i < r → front (now (tables .entry)) (bytes / 2 ^ (32 - i) % 2 ^ 32) ≡ 0) ⌝ }
+// The flags of the four places at offset i, the first of which shows the first bit of y. The answer is 0 if none stands.
+fn four(tables: &[u64], y: u64, i: usize, found: &mut [u64]) -> u64
+    requires { ⌜ (1024 ≤ length (now tables)) × (i < 8) × (32 ≤ length (now found)) ⌝ }
+    ensures { λ r. ⌜ FourFound (now (tables .entry)) y i (now (found .entry)) (now (found .exit)) r ⌝ }
 {
-    let mut i = from;
+    let a = (y >> 56) as usize;
+    let b = ((y >> 48) % 256) as usize;
+    let c = ((y >> 40) % 256) as usize;
+    let d = ((y >> 32) % 256) as usize;
+    let e = ((y >> 24) % 256) as usize;
+    let f = ((y >> 16) % 256) as usize;
+    let g = ((y >> 8) % 256) as usize;
+    let first = (tables[a] & tables[256 + b]) & (tables[512 + c] & tables[768 + d]);
+    let second = (tables[b] & tables[256 + c]) & (tables[512 + d] & tables[768 + e]);
+    let third = (tables[c] & tables[256 + d]) & (tables[512 + e] & tables[768 + f]);
+    let fourth = (tables[d] & tables[256 + e]) & (tables[512 + f] & tables[768 + g]);
+    found[i] = first;
+    found[8 + i] = second;
+    found[16 + i] = third;
+    found[24 + i] = fourth;
+    (first | second) | (third | fourth)
+}
+
+// The flags of the 32 places from the first bit of the word on. The answer is 0 if none stands.
+pub fn look(tables: &[u64], word: u64, found: &mut [u64]) -> u64
+    requires { ⌜ (1024 ≤ length (now tables)) × (32 ≤ length (now found)) ⌝ }
+    ensures { λ r. ⌜ Looked (now (tables .entry)) word (now (found .entry)) (now (found .exit)) r ⌝ }
+{
+    let mut any = 0u64;
+    let mut i = 0usize;
     while i < 8 {
-        if tables::flags(tables, (bytes >> (32 - i)) % 4294967296) != 0 {
-            return i;
-        }
+        any = any | four(tables, word << i, i, found);
         i += 1;
     }
-    8
+    any
 }
 
-// The first place from byte `from` on where some flag stands, or one from limit on. Each load serves the eight places of a
-// byte.
-fn in_blocks(text: &[u8], tables: &[u64], from: ByteNo, limit: Place) -> Place
-    requires { ⌜ (1024 ≤ length (now tables)) × (limit .0 ≤ 2 ^ 30 + 1) × (8 * from .0 ≤ limit .0 + 8) ⌝ }
-    ensures { λ r. ⌜ (8 * from .0 ≤ r .0) × (r .0 ≤ limit .0 + 8) × NoneIn (now (text .entry)) (now (tables .entry)) (8 * from .0) (r .0) ⌝ }
+fn one_if_some(flags: u64) -> u64
+    ensures { λ r. ⌜ (r < 2) × (r ≡ 0 → flags ≡ 0) ⌝ }
 {
-    let end = bits::bytes_for(limit.0 as u64) as usize;
-    let mut b = from;
-    while b.0 < end {
-        let r = first_offset(tables, load::word_at_byte(text, b), 0);
-        if r < 8 {
-            return b.place_at(r);
-        }
-        b = ByteNo(b.0 + 1);
-    }
-    b.place()
+    if flags == 0 { 0 } else { 1 }
 }
 
-// The first place from s on where some flag stands, or one from limit on.
-pub fn candidate(text: &[u8], tables: &[u64], s: Place, limit: Place) -> Place
-    requires { ⌜ (1024 ≤ length (now tables)) × (limit .0 ≤ 2 ^ 30 + 1) × (s .0 < limit .0) ⌝ }
-    ensures { λ r. ⌜ (s .0 ≤ r .0) × (r .0 ≤ limit .0 + 8) × NoneIn (now (text .entry)) (now (tables .entry)) (s .0) (r .0) ⌝ }
+// A bit for each of the 32 places with some flag, the first one lowest.
+pub fn marks(found: &[u64]) -> u64
+    requires { ⌜ 32 ≤ length (now found) ⌝ }
+    ensures { λ r. ⌜ Marked (now (found .entry)) r ⌝ }
 {
-    let b = s.byte();
-    let r = first_offset(tables, load::word_at_byte(text, b), s.offset());
-    if r < 8 {
-        return b.place_at(r);
+    let mut m = 0u64;
+    let mut e = 32usize;
+    while 0 < e {
+        e -= 1;
+        m = 2 * m + one_if_some(found[e]);
     }
-    in_blocks(text, tables, ByteNo(b.0 + 1), limit)
+    m
 }

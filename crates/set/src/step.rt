@@ -1,19 +1,25 @@
 // One step: which patterns stand at a place, and their pairs written.
-use crate::tables;
 use bits::Place;
-use bits::load;
 use matcher::compare;
+use matcher::compare::Known;
 ghost use mathlib.Core.Path.{_≡_};
 ghost use mathlib.Core.Bool.{true};
-ghost use Prim.Native.Nat.{ℕ, _+_, _*_, _^_, _≤_, _<_};
+ghost use Prim.Native.Nat.{_+_, _*_, _^_, _≤_, _<_};
 ghost use lib.ListN.{length, take};
 ghost use Rattle.bits.specs.Packed.{bitsAt};
 ghost use Rattle.rules.specs.Occurrence.{occurs};
 ghost use Rattle.matcher.specs.Progress.{textOf, Writing};
 ghost use Rattle.set.specs.PatternSet.{patternAt};
 ghost use Rattle.set.specs.Hits.{standing};
-ghost use Rattle.set.specs.Fronts.{begins, Tables, Starts};
-ghost use Rattle.set.specs.Parts.{setOf, GoodSet, PairsWritten};
+ghost use Rattle.set.specs.Fronts.{begins, Flags, Kept, Lengths};
+ghost use Rattle.set.specs.Parts.{setOf, GoodSet, Listed, PairsWritten};
+
+// What the lengths of the patterns tell: before the place `until` every pattern fits, and a pattern without a flag in `long`
+// has at most the 32 bits that the tables compare.
+pub struct Sure {
+    pub until: u32,
+    pub long: u64,
+}
 
 // Whether pattern i stands at p, where its first 32 bits agree with the text: it has to fit, and the bits after them to agree.
 fn stands(
@@ -22,12 +28,12 @@ fn stands(
     patterns: &[u8],
     fixed: &[u8],
     counts: &[u64],
-    starts: &[usize],
+    rows: &[u64],
     i: usize,
     p: Place,
 ) -> bool
     requires { ⌜ GoodSet (setOf (now patterns) (now fixed) (now counts)) × (i < length (now counts)) ⌝ }
-    requires { ⌜ Starts (setOf (now patterns) (now fixed) (now counts)) (length (now counts)) (now starts) × (length (now counts) ≤ length (now starts)) ⌝ }
+    requires { ⌜ Kept (setOf (now patterns) (now fixed) (now counts)) (length (now counts)) (now rows) × (192 ≤ length (now rows)) ⌝ }
     requires { ⌜ (n ≤ 2 ^ 30) × (p .0 ≤ 2 ^ 30) × (begins (patternAt (setOf (now patterns) (now fixed) (now counts)) i) 0 32 (bitsAt (now text) (p .0) 32) ≡ true) ⌝ }
     ensures { λ r. ⌜ r ≡ occurs (textOf (now (text .entry)) n) (patternAt (setOf (now (patterns .entry)) (now (fixed .entry)) (now (counts .entry))) i) (p .0) ⌝ }
 {
@@ -39,30 +45,61 @@ fn stands(
     if m <= 32 {
         return true;
     }
-    let start = starts[i];
-    compare::stands(text, &patterns[start..], &fixed[start..], m, p)
+    let start = rows[i] as usize;
+    let head = rows[64 + i];
+    let mask = rows[128 + i];
+    let known = Known {
+        n: n,
+        m: m,
+        head: head,
+        mask: mask,
+    };
+    compare::same(text, &patterns[start..], &fixed[start..], known, p)
 }
 
-// The numbers of the patterns that stand at p, into the front of `numbers`, and how many they are. Flags are taken lowest
-// first.
+// The numbers of the flags that are set, lowest first, into the front of `numbers`, and how many they are.
+fn listed(flags: u64, numbers: &mut [u32]) -> usize
+    requires { ⌜ 64 ≤ length (now numbers) ⌝ }
+    ensures { λ r. ⌜ Listed flags (now (numbers .entry)) (now (numbers .exit)) r ⌝ }
+{
+    let mut f = flags;
+    let mut count = 0usize;
+    while f != 0 {
+        let i = u64::trailing_zeros(f);
+        f = f & (f - 1);
+        numbers[count] = i;
+        count += 1;
+    }
+    count
+}
+
+// The numbers of the patterns that stand at p, into the front of `numbers`, and how many they are. The flags are those of the
+// patterns whose first 32 bits agree with the text there; where each of these fits and has no more bits, they all stand.
 pub fn find(
     text: &[u8],
     n: u32,
     patterns: &[u8],
     fixed: &[u8],
     counts: &[u64],
-    starts: &[usize],
-    cells: &[u64],
+    rows: &[u64],
+    sure: Sure,
     p: Place,
+    flags: u64,
     numbers: &mut [u32],
 ) -> usize
     requires { ⌜ GoodSet (setOf (now patterns) (now fixed) (now counts)) × (64 ≤ length (now numbers)) ⌝ }
-    requires { ⌜ Starts (setOf (now patterns) (now fixed) (now counts)) (length (now counts)) (now starts) × (length (now counts) ≤ length (now starts)) ⌝ }
-    requires { ⌜ Tables (setOf (now patterns) (now fixed) (now counts)) (now cells) × (1024 ≤ length (now cells)) ⌝ }
+    requires { ⌜ Kept (setOf (now patterns) (now fixed) (now counts)) (length (now counts)) (now rows) × (192 ≤ length (now rows)) ⌝ }
+    requires { ⌜ Lengths n (now counts) (sure .until) (sure .long) ⌝ }
+    requires { ⌜ Flags (setOf (now patterns) (now fixed) (now counts)) (length (now counts)) (λ w. begins w 0 32 (bitsAt (now text) (p .0) 32)) flags ⌝ }
     requires { ⌜ (n ≤ 2 ^ 30) × (p .0 ≤ 2 ^ 30) ⌝ }
     ensures { λ r. ⌜ Writing (now (numbers .entry)) 0 (standing (textOf (now (text .entry)) n) (setOf (now (patterns .entry)) (now (fixed .entry)) (now (counts .entry))) (p .0)) (now (numbers .exit)) r ⌝ }
 {
-    let mut f = tables::flags(cells, load::word_at(text, p) >> 32);
+    if p.0 < sure.until {
+        if flags & sure.long == 0 {
+            return listed(flags, numbers);
+        }
+    }
+    let mut f = flags;
     let mut from = 0u32;
     let mut count = 0usize;
     while f != 0 {
@@ -70,7 +107,7 @@ pub fn find(
         let i = from + z;
         f = (f >> z) >> 1;
         from = i + 1;
-        if stands(text, n, patterns, fixed, counts, starts, i as usize, p) {
+        if stands(text, n, patterns, fixed, counts, rows, i as usize, p) {
             numbers[count] = i;
             count += 1;
         }

@@ -4,9 +4,9 @@ use bits::ByteNo;
 use bits::load;
 use matcher::compare;
 ghost use mathlib.Core.Path.{_≡_};
-ghost use Prim.Native.Nat.{ℕ, _+_, _*_, _^_, _≤_, _<_};
+ghost use Prim.Native.Nat.{ℕ, _+_, _≤_};
 ghost use lib.ListN.{length, getD};
-ghost use Rattle.set.specs.Fronts.{Halves, Starts, front};
+ghost use Rattle.set.specs.Fronts.{Halves, Kept};
 ghost use Rattle.set.specs.Parts.{setOf, GoodSet, HalfEntered, Entered, PairedUp};
 
 // Sets the flag in the words, from cell `at` on, of those values of four bits that agree with the first four of `value`
@@ -36,17 +36,17 @@ fn enter(cells: &mut [u64], value: u64, care: u64, flag: u64)
     }
 }
 
-// Where each pattern begins, and the words for four bits each.
+// What is kept of each pattern, and the words for four bits each.
 pub fn enter_all(
     patterns: &[u8],
     fixed: &[u8],
     counts: &[u64],
-    starts: &mut [usize],
+    rows: &mut [u64],
     halves: &mut [u64],
 )
     requires { ⌜ GoodSet (setOf (now patterns) (now fixed) (now counts)) ⌝ }
-    requires { ⌜ (64 ≤ length (now starts)) × (128 ≤ length (now halves)) × ((z : ℕ) → getD (now halves) z 0 ≡ 0) ⌝ }
-    ensures { λ _. ⌜ Starts (setOf (now (patterns .entry)) (now (fixed .entry)) (now (counts .entry))) (length (now (counts .entry))) (now (starts .exit)) × Halves (setOf (now (patterns .entry)) (now (fixed .entry)) (now (counts .entry))) (length (now (counts .entry))) (now (halves .exit)) ⌝ }
+    requires { ⌜ (192 ≤ length (now rows)) × (128 ≤ length (now halves)) × ((z : ℕ) → getD (now halves) z 0 ≡ 0) ⌝ }
+    ensures { λ _. ⌜ Kept (setOf (now (patterns .entry)) (now (fixed .entry)) (now (counts .entry))) (length (now (counts .entry))) (now (rows .exit)) × Halves (setOf (now (patterns .entry)) (now (fixed .entry)) (now (counts .entry))) (length (now (counts .entry))) (now (halves .exit)) ⌝ }
 {
     let mut start = 0usize;
     let mut i = 0usize;
@@ -55,7 +55,9 @@ pub fn enter_all(
         let value = load::word_near_end(&patterns[start..], ByteNo(0));
         let care = load::word_near_end(&fixed[start..], ByteNo(0)) & compare::front(m as u32);
         enter(halves, value, care, 1 << i);
-        starts[i] = start;
+        rows[i] = start as u64;
+        rows[64 + i] = value & care;
+        rows[128 + i] = care;
         start += bits::bytes_for(m) as usize;
         i += 1;
     }
@@ -72,16 +74,4 @@ pub fn pair_up(halves: &[u64], cells: &mut [u64])
         cells[z] = halves[from + z % 256 / 16] & halves[from + 16 + z % 16];
         z += 1;
     }
-}
-
-// The flags of the patterns whose first 32 bits agree with v.
-pub fn flags(tables: &[u64], v: u64) -> u64
-    requires { ⌜ (1024 ≤ length (now tables)) × (v < 2 ^ 32) ⌝ }
-    ensures { λ r. ⌜ r ≡ front (now (tables .entry)) v ⌝ }
-{
-    let a = (v >> 24) as usize;
-    let b = ((v >> 16) % 256) as usize;
-    let c = ((v >> 8) % 256) as usize;
-    let d = (v % 256) as usize;
-    (tables[a] & tables[256 + b]) & (tables[512 + c] & tables[768 + d])
 }

@@ -42,10 +42,13 @@ pair-up-requires c κs = search needs
 places-requires : tie.Need-places-requires
 places-requires c κs = search needs
 
-cast-t25 : tie.Need-cast-t25
-cast-t25 c =
+cast-t26 : tie.Need-cast-t26
+cast-t26 c =
     let s = c .before .before .before .before .before .before .before .before .before .before .before .before .before .before .before in
     omega (arith, c .places .ensures, largest-least (λ i. (1 + s .args .n) - getD (now (s .args .counts)) i 0) (length (now (s .args .counts))) (2 ^ 30) (λ i l. omega (arith, s .pre .few-bits, s .pre .patterns .each i l .some-bits)))
+
+sure-requires : tie.Need-sure-requires
+sure-requires c κs = (c .before .before .before .before .before .before .before .before .before .before .before .before .before .before .before .pre .few-bits, c .before .before .before .before .before .before .before .before .before .before .before .before .before .before .before .pre .patterns .few)
 
 slice-aggregate-run : tie.Need-slice-aggregate-run
 slice-aggregate-run c = search needs
@@ -56,11 +59,11 @@ slice-aggregate-run-2 c = search needs
 run-requires : tie.Need-run-requires
 unfolding setPlaces
 run-requires c κs =
-    let s = c .before .before .before .before .before .before .before .before .before .before .before .before .before .before .before .before .before .before in
+    let s = c .before .before .before .before .before .before .before .before .before .before .before .before .before .before .before .before .before .before .before in
     let a = s .args in
-    let made = c .before .before .before .before .before .before .before .before .before .before .enter-all .ensures in (
+    let made = c .before .before .before .before .before .before .before .before .before .before .before .enter-all .ensures in (
       s .pre,
-      ((made .0, omega (arith, s .pre .patterns .few)), ((tables-of (setOf (now (a .patterns)) (now (a .fixed)) (now (a .counts))) (c .before .before .before .before .before .before .before .before .before .before .enter-all .last .1 .1 .1 .1 .0) (c .before .before .before .before .before .pair-up .last .1 .0) (made .1) (c .before .before .before .before .before .pair-up .ensures .0), omega arith), c .before .before .before .places .ensures)),
+      ((made .0, omega arith), (c .before .before .before .sure .ensures, ((tables-of (setOf (now (a .patterns)) (now (a .fixed)) (now (a .counts))) (c .before .before .before .before .before .before .before .before .before .before .before .enter-all .last .1 .1 .1 .1 .0) (c .before .before .before .before .before .before .pair-up .last .1 .0) (made .1) (c .before .before .before .before .before .before .pair-up .ensures .0), omega arith), c .before .before .before .before .places .ensures))),
     )
 
 answer-requires : tie.Need-answer-requires
@@ -72,10 +75,10 @@ same-length c = search needs
 returns : tie.Need-returns
 unfolding setPlaces
 returns c =
-    let a = c .before .before .before .before .before .before .before .before .before .before .before .before .before .before .before .before .before .before .before .before .before .before .args in
+    let a = c .before .before .before .before .before .before .before .before .before .before .before .before .before .before .before .before .before .before .before .before .before .before .before .args in
     leaves-run (textOf (now (a .text)) (a .n)) (setOf (now (a .patterns)) (now (a .fixed)) (now (a .counts))) (a .mark .0) (a .budget) (now (a .list)) (c .answer .result)
-    (c .before .before .before .run .result .at .0) (c .before .before .before .run .result .steps) (c .before .before .before .run .result .hits) (c .before .before .before .run .result .full) (c .before .before .before .run .last .1 .1 .1 .1 .1 .1 .1 .1 .1 .1 .0)
-    (c .before .before .before .run .ensures) (rw (c .before .before .before .before .before .before .before .places .ensures) at (c .answer .ensures))
+    (c .before .before .before .run .result .at .0) (c .before .before .before .run .result .steps) (c .before .before .before .run .result .hits) (c .before .before .before .run .result .full) (c .before .before .before .run .last .1 .1 .1 .1 .1 .1 .1 .1 .1 .1 .1 .0)
+    (c .before .before .before .run .ensures) (rw (c .before .before .before .before .before .before .before .before .places .ensures) at (c .answer .ensures))
 
 pub accepted-spec : {M : Type 1} → statement M
 accepted-spec =
@@ -88,7 +91,8 @@ accepted-spec =
     slice-aggregate-pair-up-2
     pair-up-requires
     places-requires
-    cast-t25
+    cast-t26
+    sure-requires
     slice-aggregate-run
     slice-aggregate-run-2
     run-requires

@@ -9,7 +9,7 @@ use Prim.Native.Nat.{ℕ, _-_}
 use native.Mathlib.Omega.{arith}
 use denote.Ref.{now}
 use lib.Bits.{bitAnd}
-use lib.ListN.{length}
+use lib.ListN.{length, length-set}
 use Rattle.bits.specs.Packed.{bitsAt}
 use Rattle.set.specs.Parts.{setOf}
 use Rattle.set.proofs.Entering.{EnteringAll, Inside, entering-inside, entering-none, entering-more, entering-all}
@@ -17,10 +17,10 @@ use Rattle.set.proofs.tables.enter_all.Statement.{statement}
 use Rattle.set.proofs.tables.enter_all.Tie as tie
 
 abbrev Inv-loop : tie.InvT-loop
-Inv-loop patterns fixed counts starts₀ halves₀ start₀ i₀ starts halves start i = EnteringAll (setOf patterns fixed counts) i start starts₀ starts halves₀ halves
+Inv-loop patterns fixed counts rows₀ halves₀ start₀ i₀ rows halves start i = EnteringAll (setOf patterns fixed counts) i start rows₀ rows halves₀ halves
 
 abbrev μ-loop : tie.MeasureT-loop
-μ-loop patterns fixed counts starts₀ halves₀ start₀ i₀ starts halves start i = length counts - i
+μ-loop patterns fixed counts rows₀ halves₀ start₀ i₀ rows halves start i = length counts - i
 
 -- what is known as a turn begins
 inside : (c : tie.In-loop Inv-loop μ-loop)
@@ -30,14 +30,14 @@ inside c =
     let s = c .before .before .before .before .before .before .before in
     let a = s .args in
     let l = c .before .loop in
-    entering-inside (setOf (now (a .patterns)) (now (a .fixed)) (now (a .counts))) (now (a .starts)) (now (a .halves)) (s .pre .0) (l .i) (l .start) (l .starts) (l .halves)
+    entering-inside (setOf (now (a .patterns)) (now (a .fixed)) (now (a .counts))) (now (a .rows)) (now (a .halves)) (s .pre .0) (l .i) (l .start) (l .rows) (l .halves)
     (l .inv) (c .loop-test .taken)
 
 loop-holds : tie.Need-loop-holds Inv-loop μ-loop
 loop-holds c =
     let s = c .before .before .before .before .before in
     let a = s .args in
-    entering-none (setOf (now (a .patterns)) (now (a .fixed)) (now (a .counts))) (now (a .starts)) (now (a .halves)) (s .pre .1 .2)
+    entering-none (setOf (now (a .patterns)) (now (a .fixed)) (now (a .counts))) (now (a .rows)) (now (a .halves)) (s .pre .1 .2)
 
 mul-m : tie.Need-mul-m Inv-loop μ-loop
 mul-m c = search needs
@@ -81,11 +81,29 @@ shl-enter c = search needs
 enter-requires : tie.Need-enter-requires Inv-loop μ-loop
 enter-requires c κs = search needs
 
-mul-starts : tie.Need-mul-starts Inv-loop μ-loop
-mul-starts c = search needs
+mul-rows : tie.Need-mul-rows Inv-loop μ-loop
+mul-rows c = search needs
 
-slice-write-starts : tie.Need-slice-write-starts Inv-loop μ-loop
-slice-write-starts c = search needs
+slice-write-rows : tie.Need-slice-write-rows Inv-loop μ-loop
+slice-write-rows c = omega (arith, inside (c .before .before .before .before .before .before .before .before .before .before) .few, c .before .before .before .before .before .before .before .before .before .before .before .loop .inv .rows-size, c .before .before .before .before .before .before .before .before .before .before .before .before .before .before .before .before .before .pre .1 .0)
+
+add-rows : tie.Need-add-rows Inv-loop μ-loop
+add-rows c = search needs
+
+mul-rows-2 : tie.Need-mul-rows-2 Inv-loop μ-loop
+mul-rows-2 c = search needs
+
+slice-write-rows-2 : tie.Need-slice-write-rows-2 Inv-loop μ-loop
+slice-write-rows-2 c = simp length-set (omega (arith, inside (c .before .before .before .before .before .before .before .before .before .before) .few, c .before .before .before .before .before .before .before .before .before .before .before .loop .inv .rows-size, c .before .before .before .before .before .before .before .before .before .before .before .before .before .before .before .before .before .pre .1 .0))
+
+add-rows-2 : tie.Need-add-rows-2 Inv-loop μ-loop
+add-rows-2 c = search needs
+
+mul-rows-3 : tie.Need-mul-rows-3 Inv-loop μ-loop
+mul-rows-3 c = search needs
+
+slice-write-rows-3 : tie.Need-slice-write-rows-3 Inv-loop μ-loop
+slice-write-rows-3 c = simp length-set (omega (arith, inside (c .before .before .before .before .before .before .before .before .before .before) .few, c .before .before .before .before .before .before .before .before .before .before .before .loop .inv .rows-size, c .before .before .before .before .before .before .before .before .before .before .before .before .before .before .before .before .before .pre .1 .0))
 
 bytes-for-requires : tie.Need-bytes-for-requires Inv-loop μ-loop
 bytes-for-requires c κs = omega (arith, inside (c .before .before .before .before .before .before .before .before .before .before))
@@ -109,14 +127,14 @@ loop-again c =
     let a = s .args in
     let l = at .loop in
     rw (c .bytes-for .ensures)
-    (entering-more (setOf (now (a .patterns)) (now (a .fixed)) (now (a .counts))) (now (a .starts)) (now (a .halves)) (s .pre .0) (l .i) (l .start) (l .starts) (l .halves)
-    (l .inv) (first .before .before .before .loop-test .taken) (first .word-near-end .result) _ (f .front .result) _ (s .pre .1 .0)
+    (entering-more (setOf (now (a .patterns)) (now (a .fixed)) (now (a .counts))) (now (a .rows)) (now (a .halves)) (s .pre .0) (l .i) (l .start) (l .rows) (l .halves)
+    (l .inv) (first .before .before .before .loop-test .taken) (first .word-near-end .result) _ (f .front .result) _ (s .pre .1 .0) (omega (arith, f .front .ok))
     (first .word-near-end .ensures ∙ ap (λ (t : List ℕ). bitsAt t 0 64) (part-to-end (now (a .patterns)) (l .start)))
     (ap (λ (z : ℕ). bitAnd z (f .front .result)) (f .before .word-near-end2 .ensures ∙ ap (λ (t : List ℕ). bitsAt t 0 64) (part-to-end (now (a .fixed)) (l .start))))
     (f .front .ensures) (e .enter .ensures))
 
 same-length : tie.Need-same-length Inv-loop μ-loop
-same-length c = c .before .loop .inv .starts-size
+same-length c = c .before .loop .inv .rows-size
 
 same-length-2 : tie.Need-same-length-2 Inv-loop μ-loop
 same-length-2 c = c .before .loop .inv .halves-size
@@ -147,8 +165,14 @@ enter-all-spec =
     front-requires
     shl-enter
     enter-requires
-    mul-starts
-    slice-write-starts
+    mul-rows
+    slice-write-rows
+    add-rows
+    mul-rows-2
+    slice-write-rows-2
+    add-rows-2
+    mul-rows-3
+    slice-write-rows-3
     bytes-for-requires
     add-start
     add-i
