@@ -70,7 +70,7 @@ fn made(c: Call, s: &[u8], list: &mut [u32], scratch: &mut [u64]) -> Outcome {
 }
 
 // How a call stopped, and where: a full list carries the mark's place.
-fn stopped(stop: Stop, mark: u32) -> usize {
+pub(crate) fn stopped(stop: Stop, mark: u32) -> usize {
     match stop {
         Stop::Done => 0,
         Stop::Full(p) => if p.0 == mark { 1 } else { 3 },

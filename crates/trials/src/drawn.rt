@@ -124,8 +124,8 @@ pub(crate) fn repeat(s: &mut [u8], at: usize, k: usize, period: usize) {
     packed::copy(s, at, plus(at, period), count);
 }
 
-// Text and pattern in a buffer of drawn bits stay random or become repetitive; the pattern is often a part of the text.
-fn draw_bits(s: &mut [u8], n: usize, m: usize, x: usize) {
+// The text in a buffer of drawn bits stays random or becomes repetitive.
+pub(crate) fn draw_text(s: &mut [u8], n: usize, x: usize) {
     repeat(s, TEXT_BIT, n, period(x, 5));
     // in two of three draws up to 79 bits somewhere in the text are one bit or two bits again and again
     repeat(
@@ -134,6 +134,10 @@ fn draw_bits(s: &mut [u8], n: usize, m: usize, x: usize) {
         draw(x, 19, 80),
         draw(x, 20, 3),
     );
+}
+
+// So does the pattern, which is often a part of the text.
+pub(crate) fn draw_pattern(s: &mut [u8], n: usize, m: usize, x: usize) {
     if draw(x, 7, 4) == 0 {
         repeat(s, 0, m, period(x, 8));
     } else {
@@ -141,8 +145,13 @@ fn draw_bits(s: &mut [u8], n: usize, m: usize, x: usize) {
     }
 }
 
+fn draw_bits(s: &mut [u8], n: usize, m: usize, x: usize) {
+    draw_text(s, n, x);
+    draw_pattern(s, n, m, x);
+}
+
 // Once in four draws a bit of the pattern becomes another bit, so that it may almost occur. Then its second run is made.
-fn draw_runs(wild: usize, s: &mut [u8], m: usize, x: usize) {
+pub(crate) fn draw_runs(wild: usize, s: &mut [u8], m: usize, x: usize) {
     packed::copy(s, draw(x, 15, 2048), draw(x, 16, m), draw(x, 17, 4) / 3 % 2);
     second_run(wild, s, m, x);
 }

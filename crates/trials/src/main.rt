@@ -4,7 +4,10 @@ mod call;
 mod calls;
 mod drawn;
 mod naive;
+mod naive_set;
 mod named;
+mod set_call;
+mod sets;
 mod single;
 mod wild;
 
@@ -14,10 +17,13 @@ use draws::packed;
 use draws::report;
 
 // A case of a kind, by its number and a drawn one, over a buffer of bytes and a list. The buffer is drawn, but zero for the
-// named cases.
+// named cases; a set has a buffer of its own.
 fn one(kind: usize, i: usize, x: usize) -> bool {
     let mut s = [0u8; packed::BYTES];
     let mut list = [0u32; 4400];
+    if 20 < kind {
+        return sets::one(kind, x, &mut list);
+    }
     if kind == 10 {
         return named::one(i, x, &mut s, &mut list);
     }
@@ -49,7 +55,7 @@ fn many(names: &[u8], counts: &[usize], kind: usize) -> usize {
 }
 
 // The kinds: their names, and where each one's name ends and how many cases it has.
-const NAMES: [u8; 672] = *b"\
+const NAMES: [u8; 800] = *b"\
     plain, whole                    \
     hash, whole                     \
     skip, whole                     \
@@ -70,9 +76,13 @@ const NAMES: [u8; 672] = *b"\
     refusals, wild bits             \
     bits that do not matter         \
     H, wild bits                    \
-    each length, wild bits          ";
+    each length, wild bits          \
+    sets, whole                     \
+    sets, lists of twelve calls     \
+    sets, refusals, neighbours      \
+    sets, one pattern as plain      ";
 
-const COUNTS: [usize; 42] = [
+const COUNTS: [usize; 50] = [
     13,
     30000,
     12,
@@ -115,12 +125,20 @@ const COUNTS: [usize; 42] = [
     20000,
     23,
     drawn::LENGTHS,
+    12,
+    4000,
+    28,
+    1500,
+    27,
+    4000,
+    27,
+    3000,
 ];
 
 fn main() {
     let mut wrong: usize = 0;
     let mut kind: usize = 0;
-    while kind < 21 {
+    while kind < 25 {
         wrong = number::plus(wrong, many(&NAMES, &COUNTS, kind));
         kind += 1;
     }
