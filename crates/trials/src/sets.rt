@@ -112,10 +112,10 @@ fn draw_set(s: &mut [u8], counts: &mut [u64], size: usize, n: usize, x: usize) -
     at / 8
 }
 
-// Budgets of every class, out of 6: none, one step, some, and every step.
+// Budgets of every class: none, one step, some, and every step.
 const BUDGETS: [usize; 8] = [0, 1, 1, 1, 2, 60, ALL, 1];
 
-// Cells of the list of every class, out of 10: none, and few, odd ones too; some, more, and all.
+// Cells of the list of every class, out of 10: none, and few, an odd number too; some, more, and all.
 const ROOMS: [usize; 14] = [0, 1, 1, 1, 2, 1, 3, 1, 0, 20, 0, 300, CELLS, 1];
 
 // How many patterns a call has: one beside the plain method, and else a drawn number, by its class.
@@ -181,7 +181,18 @@ fn drawn_mark(kind: usize, end: usize, x: usize) -> usize {
     }
 }
 
-// The call of a kind for a drawn text and set, of which the patterns take so many bytes.
+// A budget of a class, or just enough for the places that are left, or one more or one less.
+fn drawn_budget(left: usize, x: usize) -> usize {
+    let class = draw(x, 57, 10);
+    match class {
+        0 => left,
+        1 => plus(left, 1),
+        2 => minus(left, 1),
+        _ => choose(&BUDGETS, minus(class, 3), x, 58),
+    }
+}
+
+// The call of a kind for a drawn text and set, of which the patterns take so many bytes. All cells are lent.
 fn drawn_call(
     kind: usize,
     n: usize,
@@ -197,11 +208,25 @@ fn drawn_call(
         patterns: drawn_bytes(kind, bytes, x, 72),
         fixed: drawn_bytes(kind, bytes, x, 74),
         mark: 0,
-        budget: choose(&BUDGETS, draw(x, 57, 6), x, 58),
-        room: choose(&ROOMS, draw(x, 59, 10), x, 62),
+        budget: 0,
+        room: CELLS,
     };
-    c.mark = drawn_mark(kind, naive_set::end(c, counts), x);
+    let end = naive_set::end(c, counts);
+    c.mark = drawn_mark(kind, end, x);
+    c.budget = drawn_budget(minus(end, c.mark), x);
     c
+}
+
+// Cells of the list: of a class, or, once in four draws, just those that the call's pairs take, or one more or one less.
+fn drawn_room(c: SetCall, x: usize, s: &[u8], counts: &[u64], list: &[u32]) -> usize {
+    if 0 < draw(x, 55, 4) {
+        return choose(&ROOMS, draw(x, 59, 10), x, 62);
+    }
+    let run = naive_set::search(c, s, counts, list);
+    least_of(
+        minus(plus(plus(run.pairs, run.pairs), draw(x, 62, 3)), 1),
+        CELLS,
+    )
 }
 
 // What the calls of a list come to: pairs written, steps, the last mark, how the last accepted call stopped, which is 3 where
@@ -340,7 +365,9 @@ fn of_kind(
     fill_front(s, n, x);
     let bytes = draw_set(s, counts, size, n, x);
     change_count(kind, counts, size, x);
-    let c = drawn_call(kind, n, size, bytes, x, counts);
+    let mut c = drawn_call(kind, n, size, bytes, x, counts);
+    let room = drawn_room(c, x, s, counts, list);
+    c.room = room;
     if kind == 22 {
         return joined(c, x, s, counts, list);
     }
