@@ -60,6 +60,15 @@ def both_runs(pattern, free, second=None):
     return cells(ctypes.c_uint8, values) + cells(ctypes.c_uint8, fixed) + (ctypes.c_uint64(len(pattern)),)
 
 
+def both_runs_of_set(patterns, free, lengths=(None, None)):
+    """The patterns of a set as two runs and their bit counts, each pattern from the byte after the one before on. The two runs
+    have so many bytes, where that is given."""
+    runs = [both_runs(pattern, free) for pattern in patterns]
+    values, fixed = (b"".join(bytes(run[i])[: run[i + 1].value] for run in runs) for i in (0, 2))
+    cut = [cells(ctypes.c_uint8, run[:length]) for run, length in zip((values, fixed), lengths)]
+    return cut[0] + cut[1] + cells(ctypes.c_uint64, [len(pattern) for pattern in patterns])
+
+
 def either_way(call):
     """What a call says, which is the same for both values of the bits that never matter."""
     said = call("0")
@@ -95,6 +104,21 @@ class Library:
             return said
         steps, count, mark, stop = answer[0]
         return steps, list(places[0])[:count], mark, STOPS[stop]
+
+    def search_set(self, text, patterns, mark, budget, room, lengths=(None, None)):
+        """A refusal's number, or steps, pairs, mark and stop."""
+        both = lambda free: both_runs_of_set(patterns, free, lengths)
+        return either_way(lambda free: self.searched_set(text, both(free), mark, budget, room))
+
+    def searched_set(self, text, patterns, mark, budget, room):
+        bits = cells(ctypes.c_uint8, pack(text)) + (ctypes.c_uint64(len(text)),)
+        pairs, answer = cells(ctypes.c_uint32, [7] * room), cells(ctypes.c_uint64, [0] * 4)
+        numbers = [ctypes.c_uint32(x) for x in (mark, budget)]
+        said = self.calls.mitongory_search_set(*bits, *patterns, *numbers, *pairs, *answer)
+        if said != 0:
+            return said
+        steps, count, mark, stop = answer[0]
+        return steps, list(zip(pairs[0][: 2 * count : 2], pairs[0][1 : 2 * count : 2])), mark, STOPS[stop]
 
     def hash_value(self, pattern, byte):
         return either_way(lambda free: self.hashed(both_runs(pattern, free), byte))
@@ -169,6 +193,58 @@ def calls(block, where):
         steps, places, mark, stop = said
         listed = " ".join(map(str, places)) or "none"
         check("%s, %s, mark %d, places %s" % (stop, counted(steps, "step"), mark, listed), " ".join(answer.split()), where)
+
+
+def layout(block, where):
+    """The two runs of a set in bits, with the pattern that each byte belongs to; the bit counts, and the patterns themselves, a
+    wild bit as ?."""
+    rows = dict((line.split()[0], line.split()[1:]) for line in block)
+    check(sorted(rows), ["byte", "counts", "fixed", "number", "patterns", "strings"], where)
+    counts = [int(count) for count in rows["counts"]]
+    numbers = [str(i) for i, count in enumerate(counts) for _ in range((count + 7) // 8)]
+    check([str(i) for i in range(len(numbers))], rows["byte"], where)
+    check(numbers, rows["number"], where)
+    both = []
+    for run in ("patterns", "fixed"):
+        check([len(bits) for bits in rows[run]], [8] * len(numbers), where)
+        both.append(["".join(bits for bits, j in zip(rows[run], numbers) if j == str(i)) for i in range(len(counts))])
+    strings = ["".join(v if f == "1" else WILD for v, f in zip(*runs))[:m] for runs, m in zip(zip(*both), counts)]
+    check(strings, rows["strings"], where)
+
+
+def text_and_set(block):
+    """The text and the patterns of a set, which may be none, from the first two lines of a block."""
+    text, patterns = block[0].split()[1], block[1].split()[1:]
+    return text, [] if patterns == ["(none)"] else patterns
+
+
+CALL_OF_SET = re.compile(r"^mark (\d+) +budget (\w+) +cells (\d+) +(?:patterns (\d+) +)?(?:fixed (\d+) +)?-> +(.*)$")
+
+
+def sets(block, where):
+    """A text, the patterns of a set, and calls with their answers; perhaps with the bytes of either run."""
+    text, patterns = text_and_set(block)
+    for line in block[2:]:
+        mark, budget, room, first, second, answer = CALL_OF_SET.match(line).groups()
+        budget = ALL if budget == "all" else int(budget)
+        lengths = [length and int(length) for length in (first, second)]
+        said = library.search_set(text, patterns, int(mark), budget, int(room), lengths)
+        if isinstance(said, int):
+            check("refused %d" % said, answer, where)
+            continue
+        steps, pairs, mark, stop = said
+        listed = " ".join("(%d, %d)" % pair for pair in pairs) or "none"
+        check("%s, %s, mark %d, pairs %s" % (stop, counted(steps, "step"), mark, listed), " ".join(answer.split()), where)
+
+
+def pairs(block, where):
+    """A text, the patterns of a set, and all pairs, each with its pattern drawn at its place."""
+    text, patterns = text_and_set(block)
+    column = block[0].index(text)
+    _, found, _, stop = library.search_set(text, patterns, 0, ALL, 2 * len(text) * len(patterns))
+    check(stop, "done", where)
+    drawn = [("(%d, %d)" % pair).ljust(column) + " " * pair[0] + patterns[pair[1]] for pair in found]
+    check(drawn, block[2:], where)
 
 
 def steps(block, where, method):
@@ -330,6 +406,7 @@ def refusals():
     check(crate, rules, "refusals of the Rust crate against the guide")
     for path, name in [
         ("crates/search/specs/Verdict.antt", "numberOfRefusal"),
+        ("crates/set/specs/Verdict.antt", "numberOfRefusal"),
         ("crates/bits/specs/Eight.antt", "numberOf"),
         ("crates/positions/specs/Promise.antt", "(?:write|read)Refusal"),
         ("crates/marking/specs/Promise.antt", "markRefusal"),
@@ -337,14 +414,18 @@ def refusals():
         defined = named(page(path), r"^%s (\w+) = (\d+)$" % name)
         check(len(defined) > 1, True, "refusals of " + path)
         check(defined, {number: rules.get(number) for number in defined}, "refusals of %s against the guide" % path)
-    search = named(page("crates/search/specs/Verdict.antt"), r"^numberOfRefusal (\w+) = (\d+)$")
-    check(list(search), [number for number in guide if number in search], "the order of a search's refusals")
+    for crate, whose in [("search", "a search's"), ("set", "a set's")]:
+        ordered = named(page("crates/%s/specs/Verdict.antt" % crate), r"^numberOfRefusal (\w+) = (\d+)$")
+        check(list(ordered), [number for number in guide if number in ordered], "the order of %s refusals" % whose)
 
 
 SIMPLE = {
     "packed": packed,
     "runs": runs,
     "calls": calls,
+    "layout": layout,
+    "sets": sets,
+    "pairs": pairs,
     "rows": rows,
     "hash": hash_values,
     "scratch": scratches,
