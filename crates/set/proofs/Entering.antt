@@ -29,7 +29,7 @@ use Rattle.matcher.proofs.LinedCells.{only-none, only-set}
 use Rattle.matcher.specs.Progress.{HeadOf}
 use Rattle.set.specs.PatternSet.{PatternSet, startOf, patternAt}
 use Rattle.set.specs.Fronts.{begins, Flags, Halves, Tables, front, Kept}
-use Rattle.set.specs.Parts.{GoodSet, HalfEntered, Entered, PairedUp}
+use Rattle.set.specs.Parts.{GoodSet, HalfEntered, Entered, RowPaired, PairedUp}
 use Rattle.set.proofs.Begins.{begins-parts}
 
 -- The words of four bits, one group of sixteen cells
@@ -360,25 +360,51 @@ entering-all {i} ws so-far h =
 
 -- The words of eight bits
 
--- cell y is made of two
-abbrev pub pairOf : List ℕ → ℕ → ℕ
-pairOf halves y =
-    bitAnd (getD halves (32 * (y / 256) + y % 256 / 16) 0) (getD halves (32 * (y / 256) + 16 + y % 16) 0)
+-- the cells of one row below x are made
+pub record RowTo (from at first x : ℕ) (halves before cells : List ℕ) : Type 0 where
+  pub done : (y : ℕ) → y < x → getD cells (at + y) 0 ≡ bitAnd first (getD halves (from + y) 0)
+  pub only : Only at (at + 16) before cells
 
-pub pairs-more : (halves cells : List ℕ) (z : ℕ) → z < length cells → ((y : ℕ) → y < z → getD cells y 0 ≡ pairOf halves y)
-    → (y : ℕ) → y < z + 1 → getD (set cells z (pairOf halves z)) y 0 ≡ pairOf halves y
-pairs-more halves cells z room so-far y l = go (eq-or-below (omega arith))
+module _ (from at first : ℕ) (halves before : List ℕ) where
+  pub row-none : RowTo from at first 0 halves before before
+  row-none = record { done = λ y l. absurd (omega arith); only = only-none }
+
+  pub row-more : (x : ℕ) (cells : List ℕ) → RowTo from at first x halves before cells → x < 16 → at + 16 ≤ length before
+      → RowTo from at first (x + 1) halves before (set cells (at + x) (bitAnd first (getD halves (from + x) 0)))
+  row-more x cells so-far few room =
+      record { done = λ y l. go y (eq-or-below (omega arith)); only = only-set (at + x) new (so-far .only) (omega arith) (omega arith) }
+    where
+      new : ℕ
+      new = bitAnd first (getD halves (from + x) 0)
+
+      go : (y : ℕ) → (y ≡ x) ⊎ (y < x) → getD (set cells (at + x) new) (at + y) 0 ≡ bitAnd first (getD halves (from + y) 0)
+      go y (inl q) = rw q (getD-set-same cells (at + x) new 0 (omega (arith, so-far .only .size)))
+      go y (inr q) = getD-set-other cells (at + x) (at + y) new 0 (λ e. absurd (omega arith)) ∙ so-far .done y q
+
+  pub row-all : (x : ℕ) (cells : List ℕ) → 16 ≤ x → RowTo from at first x halves before cells → RowPaired from at first halves before cells
+  row-all x cells h so-far = record { paired = λ y l. so-far .done y (omega arith); only = so-far .only }
+
+-- the rows below z are made
+abbrev pub RowsTo : List ℕ → List ℕ → ℕ → Type 0
+RowsTo halves cells z = (k x : ℕ) → k < z → x < 16
+    → getD cells (16 * k + x) 0 ≡ bitAnd (getD halves (32 * (k / 16) + k % 16) 0) (getD halves (32 * (k / 16) + 16 + x) 0)
+
+pub rows-more : (halves cells cells' : List ℕ) (z : ℕ) → RowsTo halves cells z
+    → RowPaired (32 * (z / 16) + 16) (16 * z) (getD halves (32 * (z / 16) + z % 16) 0) halves cells cells'
+    → RowsTo halves cells' (z + 1)
+rows-more halves cells cells' z so-far new k x l h = go (eq-or-below (omega arith))
   where
-    go : (y ≡ z) ⊎ (y < z) → getD (set cells z (pairOf halves z)) y 0 ≡ pairOf halves y
-    go (inl q) = rw q (getD-set-same cells z (pairOf halves z) 0 room)
-    go (inr q) = getD-set-other cells z y (pairOf halves z) 0 (λ e. absurd (omega arith)) ∙ so-far y q
+    go : (k ≡ z) ⊎ (k < z)
+        → getD cells' (16 * k + x) 0 ≡ bitAnd (getD halves (32 * (k / 16) + k % 16) 0) (getD halves (32 * (k / 16) + 16 + x) 0)
+    go (inl q) = rw q (new .paired x h)
+    go (inr q) = new .only .low (16 * k + x) (omega arith) ∙ so-far k x q h
 
-pub pairs-all : (halves cells : List ℕ) (z : ℕ) → 1024 ≤ z → ((y : ℕ) → y < z → getD cells y 0 ≡ pairOf halves y) → PairedUp halves cells
-pairs-all halves cells z whole made c x l h =
-    let a : (256 * c + x) / 256 ≡ c = omega arith in
-    let b : (256 * c + x) % 256 / 16 ≡ x / 16 = omega arith in
-    let d : (256 * c + x) % 16 ≡ x % 16 = omega arith in
-    rw (a, b, d) at (made (256 * c + x) (omega arith))
+pub rows-all : (halves cells : List ℕ) (z : ℕ) → 64 ≤ z → RowsTo halves cells z → PairedUp halves cells
+rows-all halves cells z whole made c x l h =
+    let a : 16 * (16 * c + x / 16) + x % 16 ≡ 256 * c + x = omega arith in
+    let b : (16 * c + x / 16) / 16 ≡ c = omega arith in
+    let d : (16 * c + x / 16) % 16 ≡ x / 16 = omega arith in
+    rw (a, b, d) at (made (16 * c + x / 16) (x % 16) (omega arith) (omega arith))
 
 -- Tables of eight bits, and what 32 bits leave
 

@@ -61,6 +61,11 @@ pub record Entered (value care flag : ℕ) (before cells : List ℕ) : Type 0 wh
       (cond (sameWhere (x * 2 ^ 60 % 2 ^ 64) (value * 2 ^ (4 * g) % 2 ^ 64) (care * 2 ^ (4 * g) % 2 ^ 64) 4) flag 0)
   pub size : length cells ≡ length before
 
+-- the words of one value of the first four bits, whose own word is `first`, are made
+pub record RowPaired (from at first : ℕ) (halves before cells : List ℕ) : Type 0 where
+  pub paired : (x : ℕ) → x < 16 → getD cells (at + x) 0 ≡ bitAnd first (getD halves (from + x) 0)
+  pub only : Only at (at + 16) before cells
+
 -- the words of eight bits are made of those of four
 abbrev pub PairedUp : List ℕ → List ℕ → Type 0
 PairedUp halves cells = (c x : ℕ) → c < 4 → x < 256

@@ -7,7 +7,7 @@ ghost use mathlib.Core.Path.{_≡_};
 ghost use Prim.Native.Nat.{ℕ, _+_, _≤_};
 ghost use lib.ListN.{length, getD};
 ghost use Rattle.set.specs.Fronts.{Halves, Kept};
-ghost use Rattle.set.specs.Parts.{setOf, GoodSet, HalfEntered, Entered, PairedUp};
+ghost use Rattle.set.specs.Parts.{setOf, GoodSet, HalfEntered, Entered, RowPaired, PairedUp};
 
 // Sets the flag in the words, from cell `at` on, of those values of four bits that agree with the first four of `value`
 // where `care` has ones.
@@ -63,15 +63,28 @@ pub fn enter_all(
     }
 }
 
+// The 16 words of one value of the first four bits. A loop of its own over cells that follow one another, so that the compiler
+// makes several at once.
+fn row(halves: &[u64], from: usize, first: u64, cells: &mut [u64], at: usize)
+    requires { ⌜ (from + 16 ≤ length (now halves)) × (at + 16 ≤ length (now cells)) ⌝ }
+    ensures { λ _. ⌜ RowPaired from at first (now (halves .entry)) (now (cells .entry)) (now (cells .exit)) ⌝ }
+{
+    let mut x = 0usize;
+    while x < 16 {
+        cells[at + x] = first & halves[from + x];
+        x += 1;
+    }
+}
+
 // The words for eight bits each: those of the first four and of the last four that agree.
 pub fn pair_up(halves: &[u64], cells: &mut [u64])
     requires { ⌜ (128 ≤ length (now halves)) × (1024 ≤ length (now cells)) ⌝ }
     ensures { λ _. ⌜ PairedUp (now (halves .entry)) (now (cells .exit)) × (length (now (cells .exit)) ≡ length (now (cells .entry))) ⌝ }
 {
     let mut z = 0usize;
-    while z < 1024 {
-        let from = 32 * (z / 256);
-        cells[z] = halves[from + z % 256 / 16] & halves[from + 16 + z % 16];
+    while z < 64 {
+        let from = 32 * (z / 16);
+        row(halves, from + 16, halves[from + z % 16], cells, 16 * z);
         z += 1;
     }
 }
