@@ -142,7 +142,7 @@ enum mitongory_result {
     MITONGORY_CELLS_MISSING = 14,        /* fewer cells than the file's count, and the file is good */
     MITONGORY_TOO_MANY_SHEETS = 15,      /* more than MITONGORY_SHEETS sheets */
     MITONGORY_COUNTS_DIFFER = 16,        /* the counts of the sheets do not add up to sheets_len */
-    MITONGORY_FIXED_BYTES_MISSING = 17,  /* the same of `fixed` */
+    MITONGORY_FIXED_BYTES_MISSING = 17,  /* fewer bytes of `fixed` than m bits take */
     MITONGORY_SET_SIZE = 18,             /* no patterns, or more than MITONGORY_MOST_PATTERNS */
     MITONGORY_UNKNOWN_METHOD = 100,      /* the method is none of enum mitongory_method */
     MITONGORY_ANSWER_CELLS_MISSING = 101 /* fewer answer cells than the call needs */
