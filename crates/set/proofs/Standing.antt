@@ -248,7 +248,7 @@ module _ (t : Packed) (ws : PatternSet) (p flags : ℕ) (small : flags < 2 ^ 64)
 pub cells-append : (a b : List Hit) → cellsOf (a ++ b) ≡ cellsOf a ++ cellsOf b
 unfolding cellsOf
 cells-append [] b = refl
-cells-append (h ∷ a) b = ap (λ (l : List ℕ). h .place ∷ h .number ∷ l) (cells-append a b)
+cells-append (h ∷ a) b = rw (cells-append a b) refl
 
 pub cells-length : (l : List Hit) → length (cellsOf l) ≡ 2 * length l
 unfolding cellsOf
