@@ -38,7 +38,7 @@ module _ (q : Request) (a : Answer) (list : List ℕ) (made : Searched q (Accept
           let same : p ≡ q .mark = sym (f .0) ∙ sym h in
           let none : length (machine q .written) ≡ 0 =
           ap length (rw (← h) at (l .written-are)) ∙ ap length (all-none (q .text) (q .patterns) (q .mark)) in
-          absurd (omega (arith, rw same at (f .1)))
+          absurd (omega (arith, rw same at (f .2)))
 
       go : (e : Ending) → machine q .ending ≡ e → q .mark < machine q .mark
       go done e = let l = accepted-left q (made .verdict-is) in omega (arith, l .done-iff .0 e)

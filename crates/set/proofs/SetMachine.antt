@@ -94,7 +94,7 @@ module _ (t : Packed) (ws : PatternSet) (s : ℕ) where
         spent-all = λ q. omega (arith, rest .spent-all q);
         within = omega (arith, rest .within);
         fits = omega (arith, rest .fits);
-        full-at = λ p q. let f = rest .full-at p q in (f .0, omega (arith, f .1));
+        full-at = λ p q. let f = rest .full-at p q in (f .0, f .1, omega (arith, f .2));
         full-tried = λ p q. omega (arith, rest .full-tried p q);
         moved = omega (arith, rest .moved);
       }
@@ -111,7 +111,7 @@ module _ (t : Packed) (ws : PatternSet) (s : ℕ) where
         spent-all = λ q. absurd (spent-not-full _ _ q refl);
         within = omega arith;
         fits = omega arith;
-        full-at = λ p q. let same : s ≡ p = cc in (same, rw (← same) (omega arith));
+        full-at = λ p q. let same : s ≡ p = cc in (same, rw (← same) h, rw (← same) (omega arith));
         full-tried = λ p q. omega arith;
         moved = omega arith;
       }

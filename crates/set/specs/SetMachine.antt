@@ -50,6 +50,6 @@ pub record SetLeft (t : Packed) (ws : PatternSet) (s budget room : ℕ) (r : Set
   pub spent-all : r .ending ≡ spent → r .steps ≡ budget
   pub within : r .steps ≤ budget
   pub fits : length (r .written) ≤ room
-  pub full-at : (p : ℕ) → r .ending ≡ full p → (r .mark ≡ p) × (room < length (r .written) + length (hitsAt t ws p))
+  pub full-at : (p : ℕ) → r .ending ≡ full p → (r .mark ≡ p) × (p < setPlaces t ws) × (room < length (r .written) + length (hitsAt t ws p))
   pub full-tried : (p : ℕ) → r .ending ≡ full p → r .steps < budget
   pub moved : r .steps + s ≡ r .mark

@@ -68,7 +68,7 @@ numberOfRefusal PatternBytesMissing = 4
 numberOfRefusal FixedBytesMissing = 17
 numberOfRefusal BeyondEnd = 6
 
--- The answer carries steps, hits, the mark and how the call stopped; "the hits in the answer are pairs".
+-- The answer carries steps, hits, the mark and how the call stopped. A hit is a pair.
 pub record Carries (a : Answer) (r : SetRun) : Type 0 where
   pub steps : a .steps ≡ r .steps
   pub occurrences : a .occurrences ≡ length (r .written)
