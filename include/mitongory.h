@@ -268,6 +268,8 @@ uint32_t mitongory_search(const uint8_t *text, size_t text_len, uint64_t n,
  *   list       any length; the pairs go to its front, and the other cells stay. An odd cell at its end is not used.
  *   answer     at least MITONGORY_ANSWER_CELLS cells: steps, occurrences (pairs), mark, stop
  *
+ * No scratch is lent: each call makes its tables anew, in about 12 KiB of its stack.
+ *
  * Returns 0, or the first that applies of 101, 1, 2, 18, then 3, 4, 17 for each pattern in turn, then 6. A pattern gets 4
  * or 17 where that run ends before the pattern's last byte. 6 is for a mark above the number of places of the set.
  */
