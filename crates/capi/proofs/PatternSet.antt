@@ -1,25 +1,25 @@
 -- The search for a set of patterns from C: what the library promises gives what the call promises; and every list of such calls
 -- is a list of calls of the library, so the theorem about these (`whole` of the set crate) holds of what C sees.
 -- Assumes nothing.
-use Prim.Native.Nat.{ℕ, zero, suc, _≤_, _<_}
+use Prim.Native.Nat.{ℕ, _≤_, _<_}
 use mathlib.Core.Path.{_≡_, refl, sym, _∙_, ap}
-use mathlib.Core.Bool.{Bool, true, false, cond}
+use mathlib.Core.Bool.{Bool, true, false}
 use mathlib.Core.Logic.{_⊎_, inl, inr}
-use mathlib.Core.List.{List, [], _∷_, _++_}
-use native.Mathlib.Omega.{arith}
+use mathlib.Core.List.{List, [], _∷_}
 use lib.Dec.{ltb, eqb}
 use lib.ListN.{length, drop}
 use borrow.Author.Tests.{ltb-false}
 use Rattle.bits.specs.Packed.{Packed}
 use Rattle.rules.specs.Machine.{Ending, done, spent, full}
-use Rattle.search.specs.Verdict.{Row, Verdict, refused, accepted, judge, endingOf}
+use Rattle.search.specs.Verdict.{Verdict, refused, accepted, judge, endingOf}
 use Rattle.search.proofs.Verdict.{judge-accepted}
 use Rattle.set.specs.declared.Answer.{Answer}
 use Rattle.set.specs.declared.Refusal.{Refusal}
 use Rattle.set.specs.PatternSet.{PatternSet}
 use Rattle.set.specs.SetMachine.{SetRun}
-use Rattle.set.specs.Verdict.{Request, rowsFrom, markBeyond, rows, machine, verdict, numberOfRefusal, listAfter, AcceptedAs, RefusedAs, Searched}
+use Rattle.set.specs.Verdict.{Request, rows, machine, verdict, numberOfRefusal, listAfter, AcceptedAs, RefusedAs, Searched}
 use Rattle.set.specs.Calls as library
+use Rattle.set.proofs.Answers.{numbers-are}
 use Rattle.set.proofs.Calls as theorem
 use Rattle.capi.specs.Told.{answerCellsMissing, gives, Tells}
 use Rattle.capi.specs.Scan.{stopNumber}
@@ -62,43 +62,16 @@ record Numbered (k : ℕ) : Type 0 where
   some : eqb k 0 ≡ false
   own : eqb k answerCellsMissing ≡ false
 
--- each row of a table has such a number
-Each : List Row → Type 0
-Each [] = Unit
-Each (r ∷ l) = Numbered (r .number) × Each l
-
-each-append : (a b : List Row) → Each a → Each b → Each (a ++ b)
-unfolding Each
-each-append [] b p q = q
-each-append (r ∷ a) b p q = (p .0, each-append a b (p .1) q)
-
-given-numbered : {A : Type 0} (a : A) (table : List Row) (k : ℕ) → Each table → judge table a ≡ refused k → Numbered k
-unfolding Each judge
-given-numbered a [] k e h = let z : _≡_ {A = ℕ} 0 1 = cc in absurd (omega arith)
-given-numbered {A} a (r ∷ l) k e h = go (r .holds) (given-numbered a l k (e .1)) h
-  where
-    go : (c : Bool) → (judge l a ≡ refused k → Numbered k) → cond {A = Verdict A} c (refused (r .number)) (judge l a) ≡ refused k → Numbered k
-    go true ih g = let same : r .number ≡ k = cc in rw same at (e .0)
-    go false ih g = ih g
-
-pattern-rows : (ws : PatternSet) (i k : ℕ) → Each (rowsFrom ws i k)
-unfolding rowsFrom Each
-pattern-rows ws i zero = tt
-pattern-rows ws i (suc k) =
-    (record { read = refl; some = refl; own = refl }, (record { read = refl; some = refl; own = refl }, (record { read = refl; some = refl; own = refl }, pattern-rows ws (suc i) k)))
-
-rows-numbered : (t : Packed) (ws : PatternSet) (s : ℕ) → Each (rows t ws s)
-unfolding rows Each
-rows-numbered t ws s = (
-  record { read = refl; some = refl; own = refl },
-  (
-    record { read = refl; some = refl; own = refl },
-    (
-      record { read = refl; some = refl; own = refl },
-      each-append (rowsFrom ws 0 (length (ws .counts))) (markBeyond t ws s ∷ []) (pattern-rows ws 0 (length (ws .counts))) (record { read = refl; some = refl; own = refl }, tt),
-    ),
-  ),
-)
+numbered : {A : Type 0} (a : A) (t : Packed) (ws : PatternSet) (s k : ℕ) → judge (rows t ws s) a ≡ refused k → Numbered k
+numbered =
+    numbers-are Numbered
+    (record { read = refl; some = refl; own = refl })
+    (record { read = refl; some = refl; own = refl })
+    (record { read = refl; some = refl; own = refl })
+    (record { read = refl; some = refl; own = refl })
+    (record { read = refl; some = refl; own = refl })
+    (record { read = refl; some = refl; own = refl })
+    (record { read = refl; some = refl; own = refl })
 
 -- a way to stop, read off its number and the mark
 seen-ending : (m : ℕ) (e : Ending) → ((p : ℕ) → e ≡ full p → m ≡ p) → endingOf (stopSeen m (stopNumber e)) ≡ e
@@ -148,7 +121,7 @@ module _ (t : Packed) (ws : PatternSet) (s : ℕ) (c : SetMade) where
       go (refused k) e =
           let is = set-by (setCallOf t ws s (c .asked)) h in
           let told = rw e at (p .tells) in
-          let n = given-numbered (machine q) (rows t ws s) k (rows-numbered t ws s) (sym is ∙ e) in
+          let n = numbered (machine q) t ws s k (sym is ∙ e) in
           record {
             searched = rw (told .result-is) (refused-seen q k (c .answer-after) (c .list-after) (sym is ∙ e) n (rw e at (p .list-is)));
             own = rw (told .result-is) (n .own);

@@ -42,18 +42,18 @@ refusal-back PatternUnfit = refl
 refusal-back BeyondEnd = refl
 refusal-back ScratchTooShort = refl
 
-stopFor : Ending → Stop
+pub stopFor : Ending → Stop
 stopFor done = Done
 stopFor spent = Spent
 stopFor (full p) = Full (record { 0 = p })
 
-stop-back : (s : Stop) → stopFor (endingOf s) ≡ s
+pub stop-back : (s : Stop) → stopFor (endingOf s) ≡ s
 unfolding stopFor
 stop-back Done = refl
 stop-back (Full p) = refl
 stop-back Spent = refl
 
-ending-back : (e : Ending) → endingOf (stopFor e) ≡ e
+pub ending-back : (e : Ending) → endingOf (stopFor e) ≡ e
 unfolding stopFor
 ending-back done = refl
 ending-back spent = refl

@@ -2,6 +2,7 @@
 pub mod Hits
 pub mod SetMachine
 pub mod Rows
+pub mod Answers
 pub mod Calls
 pub mod Single
 pub mod Order
