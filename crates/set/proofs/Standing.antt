@@ -17,7 +17,7 @@ use borrow.Rule.Slice.PartAt.{part-to-end}
 use borrow.Author.Tests.{ltb-true, lt-ltb}
 use Rattle.bits.specs.Packed.{Packed, weight, bitOf, bitAt, bitsAt}
 use Rattle.bits.proofs.Weight.{weight-shr, weight-zero}
-use Rattle.bits.proofs.Run.{bits-lt, bit-of-bits}
+use Rattle.bits.proofs.Run.{bit-of-bits}
 use Rattle.rules.specs.declared.Method.the-variants.{Plain}
 use Rattle.rules.specs.Ranges.{every, keep, among}
 use Rattle.rules.specs.Pattern.{Pattern, agrees}
@@ -29,9 +29,8 @@ use Rattle.matcher.proofs.SingleBits.{trailing-below, trailing-at, trailing-lt}
 use Rattle.matcher.proofs.Writing.{writing-none, writing-more, sets-append}
 use Rattle.set.specs.PatternSet.{PatternSet, startOf, patternAt}
 use Rattle.set.specs.Hits.{Hit, hitAt, standing, cellsOf}
-use Rattle.set.specs.Fronts.{begins, Flags, Tables, front}
+use Rattle.set.specs.Fronts.{begins, Flags}
 use Rattle.set.specs.Parts.{PairsWritten}
-use Rattle.set.proofs.Entering.{front-flags}
 
 -- The first 32 bits of a pattern, compared with those of the text at p
 
@@ -136,15 +135,6 @@ module _ (t : Packed) (ws : PatternSet) (p flags : ℕ)
       among-none _ a _ (λ i l u.
       let there : a + (i - a) ≡ i = omega arith in
       unset i (omega arith) (ap (weight flags) (sym there) ∙ sym (weight-shr flags a (i - a)) ∙ ap (λ (x : ℕ). weight x (i - a)) e ∙ weight-zero (i - a)))
-
--- no flag stands, and so no pattern does
-pub none-standing : (t : Packed) (ws : PatternSet) (cells : List ℕ) → Tables ws cells → (p : ℕ) → front cells (bitsAt (t .bytes) p 32) ≡ 0
-    → standing t ws p ≡ []
-unfolding standing
-none-standing t ws cells tables p e =
-    let whole : length (ws .counts) - 0 ≡ length (ws .counts) = omega arith in
-    ap (among (λ i. occurs t (patternAt ws i) p) 0) (sym whole)
-    ∙ none-left t ws p (front cells (bitsAt (t .bytes) p 32)) (front-flags ws cells tables _ (bits-lt (t .bytes) p 32)) 0 (div-one _ ∙ e)
 
 -- Flags taken lowest first
 

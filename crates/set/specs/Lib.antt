@@ -1,5 +1,5 @@
 -- What a call for a set of patterns finds and answers: a reader believes the files up to the one on lists of calls. Then come what
--- a set of one pattern is to the plain search, a set in another order, and examples. The last two files say what the tables hold
+-- a set of one pattern is to the plain search, a set in another order, examples, and when a search goes on. The last two files say what the tables hold
 -- and what the parts of a call promise each other.
 pub mod PatternSet
 pub mod Hits

@@ -4,7 +4,7 @@
 // The method: tables of 256 words tell which patterns begin with given bits, a flag for each pattern. Table 0 goes by a
 // place's first eight bits, table 1 by the next eight, and so on. Four loads and three `and` leave the flags of the
 // patterns whose first 32 bits agree with the text at a place; mostly no flag stands, and so no pattern does. Where flags
-// stand, each of those patterns is compared by all of its bits.
+// stand, those patterns have to fit, and the ones of more than 32 bits are compared by all of their bits.
 mod call;
 mod check;
 mod scan;
