@@ -142,7 +142,7 @@ enum mitongory_result {
     MITONGORY_CELLS_MISSING = 14,        /* fewer cells than the file's count, and the file is good */
     MITONGORY_TOO_MANY_SHEETS = 15,      /* more than MITONGORY_SHEETS sheets */
     MITONGORY_COUNTS_DIFFER = 16,        /* the counts of the sheets do not add up to sheets_len */
-    MITONGORY_FIXED_BYTES_MISSING = 17,  /* fewer bytes of `fixed` than m bits take */
+    MITONGORY_FIXED_BYTES_MISSING = 17,  /* fewer bytes of `fixed` than m bits take; a set's `fixed` ends before a pattern does */
     MITONGORY_SET_SIZE = 18,             /* no patterns, or more than MITONGORY_MOST_PATTERNS */
     MITONGORY_UNKNOWN_METHOD = 100,      /* the method is none of enum mitongory_method */
     MITONGORY_ANSWER_CELLS_MISSING = 101 /* fewer answer cells than the call needs */
@@ -247,7 +247,7 @@ uint32_t mitongory_search(const uint8_t *text, size_t text_len, uint64_t n,
                           uint64_t *answer, size_t answer_len);
 
 /*
- * Lists, from the mark on, the occurrences of up to MITONGORY_MOST_PATTERNS patterns in the first n bits of `text`, in one
+ * Lists, from the mark on, the occurrences of 1 to MITONGORY_MOST_PATTERNS patterns in the first n bits of `text`, in one
  * pass, as far as the budget of steps and the cells of the list go. An occurrence is as for a search. It is listed as a
  * pair of its place and the pattern's number, counted from 0, which takes two cells, the place first. The pairs rise by
  * place, and at one place by number. Two patterns that are equal have the same places, each under its own number. Mark,

@@ -406,7 +406,7 @@ def refusals():
     check(crate, rules, "refusals of the Rust crate against the guide")
     for path, name in [
         ("crates/search/specs/Verdict.antt", "numberOfRefusal"),
-        ("crates/set/specs/Verdict.antt", "numberOfRefusal"),
+        ("crates/set/specs/Promise.antt", "numberOfRefusal"),
         ("crates/bits/specs/Eight.antt", "numberOf"),
         ("crates/positions/specs/Promise.antt", "(?:write|read)Refusal"),
         ("crates/marking/specs/Promise.antt", "markRefusal"),
@@ -414,8 +414,8 @@ def refusals():
         defined = named(page(path), r"^%s (\w+) = (\d+)$" % name)
         check(len(defined) > 1, True, "refusals of " + path)
         check(defined, {number: rules.get(number) for number in defined}, "refusals of %s against the guide" % path)
-    for crate, whose in [("search", "a search's"), ("set", "a set's")]:
-        ordered = named(page("crates/%s/specs/Verdict.antt" % crate), r"^numberOfRefusal (\w+) = (\d+)$")
+    for path, whose in [("search/specs/Verdict.antt", "a search's"), ("set/specs/Promise.antt", "a set's")]:
+        ordered = named(page("crates/" + path), r"^numberOfRefusal (\w+) = (\d+)$")
         check(list(ordered), [number for number in guide if number in ordered], "the order of %s refusals" % whose)
 
 

@@ -1,20 +1,15 @@
 #!/usr/bin/env python3
 """Calls mitongory_mark_sitting through ctypes, on named sittings, drawn ones and a large one, good and refused, and compares
-what it returns and what every buffer holds afterwards with a naive marking by sets, from document 02's words. The archive
-is that of `make lib`, or lies in the folder that MITONGORY_LIB_DIR names; a shared object is made of it in target/. Prints
-one line with the number of checks, or the first differences and exits with 1."""
+what it returns and what every buffer holds afterwards with a naive marking by sets, from document 02's words. Prints one
+line with the number of checks, or the first differences and exits with 1."""
 
-import array
-import ctypes
-import os
 import random
-import subprocess
 import sys
 
-TOP = os.path.dirname(os.path.dirname(os.path.abspath(__file__)))
+from library import BUFFER, NO_CELLS, dirty, lent, load
+
 LIMIT = 2**30
 LARGEST_COUNT = 2**64 - 1
-NO_CELLS = 101
 
 
 # ---- marking, by sets
@@ -58,37 +53,6 @@ def marked(key, cells, counts, report, answer):
 # ---- the library's call
 
 
-def build():
-    """A shared object of the whole archive."""
-    folder = os.environ.get("MITONGORY_LIB_DIR")
-    if not folder:
-        made = subprocess.run(["make", "-s", "lib"], cwd=TOP, stdout=subprocess.PIPE, stderr=subprocess.STDOUT, check=False)
-        if made.returncode:
-            sys.exit(made.stdout.decode(errors="replace") + "sitting.py: make lib failed")
-        folder = os.path.join(TOP, "target", "lib")
-    out = os.path.join(TOP, "target", "python")
-    os.makedirs(out, exist_ok=True)
-    shared = os.path.join(out, "libmitongory.so")
-    archive = os.path.join(folder, "libmitongory.a")
-    subprocess.run(
-        ["gcc", "-shared", "-o", shared, "-Wl,--whole-archive", archive, "-Wl,--no-whole-archive"], check=True
-    )
-    return shared
-
-
-def load(shared):
-    call = ctypes.CDLL(shared).mitongory_mark_sitting
-    call.restype = ctypes.c_uint32
-    call.argtypes = [ctypes.c_void_p, ctypes.c_size_t] * 5
-    return call
-
-
-def lent(code, values):
-    """A buffer of these values, and the two arguments that lend it. No values are lent as NULL."""
-    buffer = array.array(code, values)
-    return buffer, [buffer.buffer_info()[0] if values else None, len(values)]
-
-
 def called(call, key, cells, counts, report, answer):
     """As marked, by the library; and it changes nothing that it only reads."""
     buffers, lending = [], []
@@ -104,10 +68,6 @@ def called(call, key, cells, counts, report, answer):
 
 
 # ---- sittings: a name, and the arguments of a call
-
-
-def dirty(rng, count, bits):
-    return [rng.getrandbits(bits) for _ in range(count)]
 
 
 def sitting(rng, key, sheets, counts=None, cells=None, report=None, answer=3):
@@ -249,7 +209,7 @@ def large(rng):
 
 
 def main():
-    call = load(build())
+    call = load("mitongory_mark_sitting", BUFFER * 5)
     rng = random.Random(20261116)
     checks, wrong = 0, []
     results = set()

@@ -3,7 +3,7 @@ use crate::refusal::Refusal;
 use crate::search::{Answer, Mark, Stop};
 
 /// How many occurrences a call may write. Each call makes its tables anew, some microseconds of work at most; over so
-/// many occurrences that is little. The occurrences of a set at one place are fewer, so that no call stands still.
+/// many occurrences that is little. The occurrences of a set at one place are fewer, so that every call moves on.
 const OCCURRENCES: usize = 1024;
 
 /// The budget of each call that `next` makes: mostly some milliseconds of work, so that a call makes its tables seldom

@@ -5,7 +5,7 @@ use Prim.Native.Nat.{ℕ, _≤_, _<_}
 use mathlib.Core.Path.{_≡_, refl, sym, _∙_, ap}
 use mathlib.Core.Bool.{Bool, true, false}
 use mathlib.Core.Logic.{_⊎_, inl, inr}
-use mathlib.Core.List.{List, [], _∷_}
+use mathlib.Core.List.{List, [], _∷_, map}
 use lib.Dec.{ltb, eqb}
 use lib.ListN.{length, drop}
 use borrow.Author.Tests.{ltb-false}
@@ -15,15 +15,17 @@ use Rattle.search.specs.Verdict.{Verdict, refused, accepted, judge, endingOf}
 use Rattle.search.proofs.Verdict.{judge-accepted}
 use Rattle.set.specs.declared.Answer.{Answer}
 use Rattle.set.specs.declared.Refusal.{Refusal}
-use Rattle.set.specs.PatternSet.{PatternSet}
-use Rattle.set.specs.SetMachine.{SetRun}
-use Rattle.set.specs.Verdict.{Request, rows, machine, verdict, numberOfRefusal, listAfter, AcceptedAs, RefusedAs, Searched}
+use Rattle.set_rules.specs.PatternSet.{PatternSet}
+use Rattle.set_rules.specs.SetMachine.{SetRun}
+use Rattle.set_rules.specs.Verdict.{Request, rows, machine, verdict, listAfter}
+use Rattle.set.specs.Promise.{numberOfRefusal, AcceptedAs, RefusedAs, Searched}
 use Rattle.set.specs.Calls as library
 use Rattle.set.proofs.Answers.{numbers-are}
 use Rattle.set.proofs.Calls as theorem
 use Rattle.capi.specs.Told.{answerCellsMissing, gives, Tells}
 use Rattle.capi.specs.Scan.{stopNumber}
-use Rattle.capi.specs.PatternSet.{SetCall, setRequest, setVerdict, SetSearched, setCallOf, SetMade, setMarkAfter, AllSetMade, stopSeen, refusalSeen, outcomeSeen, callSeen, callsSeen, setLastMark, SetWhole}
+use Rattle.capi.specs.CallList.{Seen}
+use Rattle.capi.specs.PatternSet.{SetCall, setRequest, setVerdict, SetSearched, setCallOf, SetMade, setMarkAfter, AllSetMade, setSeenOf, setSeen, setMarkBy, setSeenBy, setMachineSeen, stopSeen, refusalSeen, outcomeSeen, callSeen, callsSeen, setLastMark, SetWhole}
 use Rattle.capi.proofs.Telling.{few-cells, enough-cells, refusing}
 
 -- ---- one call
@@ -109,6 +111,7 @@ module _ (t : Packed) (ws : PatternSet) (s : ℕ) (c : SetMade) where
     searched : Searched (library.requestOf t ws s (callSeen c .asked)) (outcomeSeen (c .result) (c .answer-after)) (c .list-after)
     own : eqb (c .result) answerCellsMissing ≡ false
     mark : setMarkAfter s c ≡ library.markOf s (outcomeSeen (c .result) (c .answer-after))
+    shown : setMarkAfter s c ≡ setMarkBy (setVerdict (setCallOf t ws s (c .asked))) s
 
   taken : SetSearched (setCallOf t ws s (c .asked)) (c .result) (c .list-after) (c .answer-after) → 4 ≤ length (c .asked .answer) → Taken
   unfolding verdict
@@ -126,6 +129,7 @@ module _ (t : Packed) (ws : PatternSet) (s : ℕ) (c : SetMade) where
             searched = rw (told .result-is) (refused-seen q k (c .answer-after) (c .list-after) (sym is ∙ e) n (rw e at (p .list-is)));
             own = rw (told .result-is) (n .own);
             mark = rw (told .result-is, n .some) refl;
+            shown = rw (told .result-is, n .some, e) refl;
           }
       go (accepted r) e =
           let is = set-by (setCallOf t ws s (c .asked)) h in
@@ -135,16 +139,49 @@ module _ (t : Packed) (ws : PatternSet) (s : ℕ) (c : SetMade) where
             searched = rw (told .result-is, told .answer-is) (accepted-seen q r (drop 4 (c .asked .answer)) (c .list-after) same (sym is ∙ e) (rw e at (p .list-is)));
             own = rw (told .result-is) refl;
             mark = rw (told .result-is) refl;
+            shown = rw (told .result-is, told .answer-is, e) refl;
           }
 
   -- or it got 101 and left the mark
-  each : SetSearched (setCallOf t ws s (c .asked)) (c .result) (c .list-after) (c .answer-after) → (c .result ≡ answerCellsMissing) ⊎ Taken
+  record Skipped : Type 0 where
+    result : c .result ≡ answerCellsMissing
+    shown : setMarkAfter s c ≡ setMarkBy (setVerdict (setCallOf t ws s (c .asked))) s
+
+  each : SetSearched (setCallOf t ws s (c .asked)) (c .result) (c .list-after) (c .answer-after) → Skipped ⊎ Taken
   unfolding setVerdict
   each p = go (ltb (length (c .asked .answer)) 4) refl
     where
-      go : (b : Bool) → ltb (length (c .asked .answer)) 4 ≡ b → (c .result ≡ answerCellsMissing) ⊎ Taken
-      go true e = inl (rw e at (p .tells .result-is))
+      go : (b : Bool) → ltb (length (c .asked .answer)) 4 ≡ b → Skipped ⊎ Taken
+      go true e =
+          let told = rw e at (p .tells .result-is) in
+          inl (record { result = told; shown = rw (told, e) refl })
       go false e = inr (taken p (ltb-false (length (c .asked .answer)) 4 e))
+
+-- what C sees of each call is what the machine shows, or its refusal
+mark-shown : (t : Packed) (ws : PatternSet) (s : ℕ) (c : SetMade) → Skipped t ws s c ⊎ Taken t ws s c
+    → setMarkAfter s c ≡ setMarkBy (setVerdict (setCallOf t ws s (c .asked))) s
+mark-shown t ws s c (inl k) = k .shown
+mark-shown t ws s c (inr k) = k .shown
+
+seen-from : (t : Packed) (ws : PatternSet) (calls : List SetMade) (s : ℕ) → AllSetMade t ws s calls
+    → setSeen s calls ≡ setMachineSeen t ws s (map (λ (c : SetMade). c .asked) calls)
+unfolding setSeen setMachineSeen
+seen-from t ws [] s m = refl
+seen-from t ws (c ∷ cs) s m =
+    rw (← first, ← mark) (ap (λ (l : List Seen). setSeenOf s c ∷ l) (seen-from t ws cs (setMarkAfter s c) (m .1)))
+  where
+    mark : setMarkAfter s c ≡ setMarkBy (setVerdict (setCallOf t ws s (c .asked))) s
+    mark = mark-shown t ws s c (each t ws s c (m .0))
+
+    first : setSeenOf s c ≡ setSeenBy (setCallOf t ws s (c .asked)) (setVerdict (setCallOf t ws s (c .asked)))
+    first =
+        let p = m .0 in
+        λ i. record {
+          result = p .tells .result-is i;
+          answer = p .tells .answer-is i;
+          list = p .list-is i;
+          mark = mark i;
+        }
 
 record From (t : Packed) (ws : PatternSet) (s : ℕ) (cs : List SetMade) : Type 0 where
   made : library.Made t ws s (callsSeen cs)
@@ -155,8 +192,9 @@ unfolding callsSeen setLastMark library.lastMark
 from t ws [] s m = record { made = tt; mark = refl }
 from t ws (c ∷ cs) s m = go (from t ws cs) (each t ws s c (m .0))
   where
-    go : ((z : ℕ) → AllSetMade t ws z cs → From t ws z cs) → (c .result ≡ answerCellsMissing) ⊎ Taken t ws s c → From t ws s (c ∷ cs)
-    go ih (inl e) =
+    go : ((z : ℕ) → AllSetMade t ws z cs → From t ws z cs) → Skipped t ws s c ⊎ Taken t ws s c → From t ws s (c ∷ cs)
+    go ih (inl k) =
+        let e = k .result in
         let r = ih s (rw e at (m .1)) in
         record { made = rw e (r .made); mark = rw e (r .mark) }
     go ih (inr k) =
@@ -167,4 +205,4 @@ from t ws (c ∷ cs) s m = go (from t ws cs) (each t ws s c (m .0))
 pub set-whole : (t : Packed) (ws : PatternSet) (calls : List SetMade) → AllSetMade t ws 0 calls → SetWhole t ws calls
 set-whole t ws calls m =
     let f = from t ws calls 0 m in
-    record { made = f .made; whole = theorem.whole t ws (callsSeen calls) (f .made); mark = f .mark }
+    record { seen-is = seen-from t ws calls 0 m; made = f .made; whole = theorem.whole t ws (callsSeen calls) (f .made); mark = f .mark }

@@ -2,7 +2,7 @@
 use Prim.Native.Nat.{ℕ}
 use mathlib.Core.Path.{_≡_}
 use mathlib.Core.Bool.{cond}
-use mathlib.Core.List.{List, [], _∷_}
+use mathlib.Core.List.{List, [], _∷_, map}
 use lib.Dec.{eqb}
 use lib.ListN.{length, getD}
 use Rattle.bits.specs.Packed.{Packed}
@@ -13,12 +13,13 @@ use Rattle.set.specs.declared.Outcome.{Outcome}
 use Rattle.set.specs.declared.Outcome.the-variants.{Accepted, Refused}
 use Rattle.set.specs.declared.Refusal.{Refusal}
 use Rattle.set.specs.declared.Refusal.the-variants.{TextTooLong, TextBytesMissing, SetSize, PatternLength, PatternBytesMissing, FixedBytesMissing, BeyondEnd}
-use Rattle.set.specs.PatternSet.{PatternSet}
-use Rattle.set.specs.SetMachine.{SetRun}
-use Rattle.set.specs.Verdict.{Request, verdict, listAfter}
+use Rattle.set_rules.specs.PatternSet.{PatternSet}
+use Rattle.set_rules.specs.SetMachine.{SetRun}
+use Rattle.set_rules.specs.Verdict.{Request, verdict, listAfter}
 use Rattle.set.specs.Calls as library
-use Rattle.capi.specs.Told.{answerCellsMissing, Told, gives, refuses, unlessCells, Tells}
+use Rattle.capi.specs.Told.{answerCellsMissing, Told, gives, refuses, resultOf, answerAfter, unlessCells, Tells}
 use Rattle.capi.specs.Scan.{stopNumber}
+use Rattle.capi.specs.CallList.{Seen}
 
 -- ---- one call
 
@@ -103,6 +104,35 @@ AllSetMade t ws s [] = Unit
 AllSetMade t ws s (c ∷ cs) =
     SetSearched (setCallOf t ws s (c .asked)) (c .result) (c .list-after) (c .answer-after) × AllSetMade t ws (setMarkAfter s c) cs
 
+-- what C saw of the calls as they were made (`Seen`: result, answer cells, list and mark), the first at the mark s
+abbrev pub setSeenOf : ℕ → SetMade → Seen
+setSeenOf s c = record { result = c .result; answer = c .answer-after; list = c .list-after; mark = setMarkAfter s c }
+
+unfoldable pub setSeen : ℕ → List SetMade → List Seen
+setSeen s [] = []
+setSeen s (c ∷ cs) = setSeenOf s c ∷ setSeen (setMarkAfter s c) cs
+
+-- What the machine shows, or the refusal, 101 included, by the call's verdict; nothing here rests on what a call gave.
+abbrev pub setMarkBy : Verdict SetRun → ℕ → ℕ
+setMarkBy (refused number) s = s
+setMarkBy (accepted r) s = r .mark
+
+abbrev pub setSeenBy : SetCall → Verdict SetRun → Seen
+setSeenBy q v =
+    record {
+      result = resultOf (setTells v);
+      answer = answerAfter (setTells v) (q .answer);
+      list = setList v (q .list);
+      mark = setMarkBy v (q .mark);
+    }
+
+-- what it shows of one call after the other, the first at the mark s, each later one at the mark that the one before showed
+unfoldable pub setMachineSeen : Packed → PatternSet → ℕ → List SetAsked → List Seen
+setMachineSeen t ws s [] = []
+setMachineSeen t ws s (q ∷ qs) =
+    let r = setSeenBy (setCallOf t ws s q) (setVerdict (setCallOf t ws s q)) in
+    r ∷ setMachineSeen t ws (r .mark) qs
+
 -- What C reads off result and answer cells, as an outcome of the library: how the call stopped, by the fourth cell and the mark
 abbrev pub stopSeen : ℕ → ℕ → Stop
 stopSeen mark k = cond (eqb k 0) Done (cond (eqb k 1) (Full (record { 0 = mark })) Spent)
@@ -138,7 +168,7 @@ callSeen c =
       list-after = c .list-after;
     }
 
--- the calls from C as calls of the library: all but those that got 101, which left everything as it was
+-- the calls from C as calls of the library: all but those that got 101
 unfoldable pub callsSeen : List SetMade → List library.Call
 callsSeen [] = []
 callsSeen (c ∷ cs) = cond (eqb (c .result) answerCellsMissing) (callsSeen cs) (callSeen c ∷ callsSeen cs)
@@ -148,9 +178,11 @@ unfoldable pub setLastMark : ℕ → List SetMade → ℕ
 setLastMark s [] = s
 setLastMark s (c ∷ cs) = setLastMark (setMarkAfter s c) cs
 
--- Read off results, answer cells and lists, the calls are calls of the library that each meet its promise at the mark left by the
--- one before; so the claim about every list of these holds (`Whole`), and the last mark is the one that C has.
+-- Each call's result, answer cells, list and mark are those that the machine gives, or those of its refusal, 101 included. Read
+-- off results, answer cells and lists, the others are calls of the library that each meet its promise at the mark left by the one
+-- before; so the claim about every list of these holds (`Whole`), and the last mark is the one that C has.
 pub record SetWhole (t : Packed) (ws : PatternSet) (calls : List SetMade) : Type 0 where
+  pub seen-is : setSeen 0 calls ≡ setMachineSeen t ws 0 (map (λ (c : SetMade). c .asked) calls)
   pub made : library.Made t ws 0 (callsSeen calls)
   pub whole : library.Whole t ws (callsSeen calls)
   pub mark : setLastMark 0 calls ≡ library.lastMark 0 (callsSeen calls)

@@ -7,8 +7,8 @@ use search::Mark;
 use set::Outcome;
 ghost use Rattle.capi.specs.PatternSet.{SetSearched};
 
-// Lists the pairs of a place from the mark on and the number of a pattern that stands there in the first n bits of the text.
-// Each pattern begins on the byte after the one before, in both runs.
+// Lists the hits from the mark on: pairs of a place and the number of a pattern that stands there in the first n bits of the
+// text. Each pattern begins on the byte after the one before, in both runs.
 #[no_mangle]
 pub extern "C" fn mitongory_search_set(
     text: &[u8],

@@ -3,9 +3,7 @@
 use Prim.Native.Nat.{ℕ}
 use mathlib.Core.Path.{_≡_, refl, sym, ap, _∙_}
 use mathlib.Core.Bool.{cond}
-use mathlib.Core.Logic.{_⊎_, inl, inr}
-use mathlib.Core.List.{List, [], _∷_, _++_, map, List·Memᴰ, List·Memᴰ·head, List·Memᴰ·tail, List·Memᴰ·not-nil, List·Memᴰ·cases-cons}
-use native.Mathlib.Omega.{arith}
+use mathlib.Core.List.{List, _++_}
 use lib.Dec.{eqb}
 use lib.ListN.{length, drop}
 use Rattle.search.specs.declared.Answer.{Answer}
@@ -17,8 +15,8 @@ use Rattle.search.specs.declared.Stop.{Stop}
 use Rattle.search.specs.declared.Stop.the-variants.{Done, Full, Spent}
 use Rattle.rules.specs.Scratch.{scratchCells}
 use Rattle.rules.specs.Machine.{Ending, done, spent, full, Run}
-use Rattle.search.specs.Verdict.{Request, Row, Verdict, refused, accepted, machine, verdict, numberOfRefusal, endingOf, Carries, Searched}
-use Rattle.search.proofs.Verdict.{in-order, refused-iff, accepted-fail, accepted-iff}
+use Rattle.search.specs.Verdict.{Request, Verdict, refused, accepted, rows, machine, verdict, numberOfRefusal, endingOf, Carries, Searched}
+use Rattle.search.proofs.Verdict.{refused-not-accepted, given, accepted-fail, accepted-iff}
 
 -- back from a number to the refusal, and from an ending to the way to stop
 refusalOf : ℕ → Refusal
@@ -77,9 +75,6 @@ carries-only a r c = λ i. record {
   stop = (sym (stop-back (a .stop)) ∙ ap stopFor (c .ending)) i;
 }
 
-accepted-not-refused : (v : Verdict Run) (r : Run) (k : ℕ) → v ≡ accepted r → v ≡ refused k → ⊥
-accepted-not-refused v r k p q = let z : _≡_ {A = ℕ} 0 1 = cc in omega arith
-
 -- The scratch cells before the method's figure "are free after an accepted call (the only part left free)": on all else two
 -- scratches agree
 abbrev pub SameScratch : Request → Outcome → List ℕ → List ℕ → Type 0
@@ -102,8 +97,8 @@ unique q (Accepted a) (Accepted b) l m s u c d =
       list = c .list-is ∙ sym (d .list-is);
       scratch = (c .scratch-length ∙ sym (d .scratch-length), c .scratch-rest ∙ sym (d .scratch-rest));
     }
-unique q (Accepted a) (Refused r) l m s u c d = absurd (accepted-not-refused (verdict q) _ _ (c .verdict-is) (d .verdict-is))
-unique q (Refused r) (Accepted a) l m s u c d = absurd (accepted-not-refused (verdict q) _ _ (d .verdict-is) (c .verdict-is))
+unique q (Accepted a) (Refused r) l m s u c d = absurd (refused-not-accepted (verdict q) _ _ (d .verdict-is) (c .verdict-is))
+unique q (Refused r) (Accepted a) l m s u c d = absurd (refused-not-accepted (verdict q) _ _ (c .verdict-is) (d .verdict-is))
 unique q (Refused r) (Refused t) l m s u c d =
     let first = c .verdict-is in
     let second = d .verdict-is in
@@ -115,31 +110,11 @@ unique q (Refused r) (Refused t) l m s u c d =
     }
 
 -- each number of the table has its refusal
-Each : (ℕ → Type 0) → List ℕ → Type 0
-Each P [] = Unit
-Each P (x ∷ l) = P x × Each P l
-
-at-member : (P : ℕ → Type 0) (l : List ℕ) → Each P l → (k : ℕ) → List·Memᴰ k l → P k
-unfolding Each
-at-member P [] h k m = absurd (List·Memᴰ·not-nil m)
-at-member P (x ∷ l) h k m = go (at-member P l (h .1) k) (List·Memᴰ·cases-cons m)
-  where
-    go : (List·Memᴰ k l → P k) → (k ≡ x) ⊎ List·Memᴰ k l → P k
-    go ih (inl e) = rw e (h .0)
-    go ih (inr n) = ih n
-
-number-in : (earlier : List Row) (row : Row) (others : List Row)
-    → List·Memᴰ (row .number) (map (λ (r : Row). r .number) (earlier ++ row ∷ others))
-number-in [] row others = List·Memᴰ·head refl
-number-in (r ∷ l) row others = List·Memᴰ·tail (number-in l row others)
-
 numbered : (q : Request) (k : ℕ) → verdict q ≡ refused k → numberOfRefusal (refusalOf k) ≡ k
-unfolding refusalOf Each
+unfolding refusalOf rows verdict
 numbered q k h =
-    let g = refused-iff q k .0 h in
-    let there : List·Memᴰ (g .row .number) (1 ∷ 2 ∷ 3 ∷ 4 ∷ 17 ∷ 5 ∷ 6 ∷ 7 ∷ []) =
-    rw (in-order q) at (rw (← (g .here)) at (number-in (g .earlier) (g .row) (g .others))) in
-    at-member (λ n. numberOfRefusal (refusalOf n) ≡ n) _ (refl, (refl, (refl, (refl, (refl, (refl, (refl, (refl, tt)))))))) k (rw (g .number) at there)
+    given (machine q) (λ n. numberOfRefusal (refusalOf n) ≡ n) (rows q) k
+    (refl, (refl, (refl, (refl, (refl, (refl, (refl, (refl, tt)))))))) h
 
 -- an answer for each request
 pub record Answered (q : Request) : Type 0 where

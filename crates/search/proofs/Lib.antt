@@ -2,6 +2,7 @@
 pub mod Verdict
 pub mod Answers
 pub mod Scratch
+pub mod Passed
 pub mod Calls
 pub mod Progress
 pub mod Padding

@@ -14,10 +14,19 @@ pub in-order : (q : Request) → map (λ (r : Row). r .number) (rows q) ≡ 1 �
 unfolding rows
 in-order q = refl
 
-module _ {A : Type 0} (a : A) where
-  refused-not-accepted : (v : Verdict A) (k : ℕ) (b : A) → v ≡ refused k → v ≡ accepted b → ⊥
-  refused-not-accepted v k b p q = let z : _≡_ {A = ℕ} 0 1 = cc in omega arith
+pub refused-not-accepted : {A : Type 0} (v : Verdict A) (k : ℕ) (b : A) → v ≡ refused k → v ≡ accepted b → ⊥
+refused-not-accepted v k b p q = let z : _≡_ {A = ℕ} 0 1 = cc in omega arith
 
+-- what holds of the number of each row
+abbrev pub Each : (ℕ → Type 0) → List Row → Type 0
+Each P [] = Unit
+Each P (r ∷ rest) = P (r .number) × Each P rest
+
+pub each-append : (P : ℕ → Type 0) (l m : List Row) → Each P l → Each P m → Each P (l ++ m)
+each-append P [] m p q = q
+each-append P (r ∷ l) m p q = (p .0, each-append P l m (p .1) q)
+
+module _ {A : Type 0} (a : A) where
   pub judge-refused : (table : List Row) (k : ℕ) → judge table a ≡ refused k → Given k table
   unfolding judge
   judge-refused [] k h = absurd (refused-not-accepted (refused k) k a refl (sym h))
@@ -39,6 +48,16 @@ module _ {A : Type 0} (a : A) where
             holds = f .holds;
             number = f .number;
           }
+
+  -- it holds of a number that is given
+  pub given : (P : ℕ → Type 0) (table : List Row) (k : ℕ) → Each P table → judge table a ≡ refused k → P k
+  unfolding judge
+  given P [] k e h = absurd (refused-not-accepted (refused k) k a refl (sym h))
+  given P (r ∷ rest) k e h = go (r .holds) (given P rest k (e .1)) h
+    where
+      go : (c : Bool) → (judge rest a ≡ refused k → P k) → cond c (refused (r .number)) (judge rest a) ≡ refused k → P k
+      go true ih g = let same : r .number ≡ k = cc in rw same at (e .0)
+      go false ih g = ih g
 
   pub judge-accepted : (table : List Row) (b : A) → judge table a ≡ accepted b → AllFail table × (b ≡ a)
   unfolding judge

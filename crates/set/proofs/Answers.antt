@@ -3,57 +3,37 @@
 -- Assumes nothing.
 use Prim.Native.Nat.{ℕ, zero, suc}
 use mathlib.Core.Path.{_≡_, refl, sym, ap, _∙_}
-use mathlib.Core.Bool.{Bool, true, false, cond}
-use mathlib.Core.List.{List, [], _∷_, _++_}
-use native.Mathlib.Omega.{arith}
+use mathlib.Core.Bool.{cond}
+use mathlib.Core.List.{List, [], _∷_}
 use lib.Dec.{eqb}
 use lib.ListN.{length}
 use Rattle.bits.specs.Packed.{Packed}
-use Rattle.search.specs.Verdict.{Row, Verdict, refused, accepted, judge}
-use Rattle.search.proofs.Verdict.{judge-accepted, accepted-judge}
+use Rattle.search.specs.Verdict.{Verdict, refused, accepted, judge}
+use Rattle.search.proofs.Verdict.{refused-not-accepted, Each, each-append, given, judge-accepted, accepted-judge}
 use Rattle.search.proofs.Answers.{stopFor, stop-back, ending-back}
 use Rattle.set.specs.declared.Answer.{Answer}
 use Rattle.set.specs.declared.Outcome.{Outcome}
 use Rattle.set.specs.declared.Outcome.the-variants.{Accepted, Refused}
 use Rattle.set.specs.declared.Refusal.{Refusal}
 use Rattle.set.specs.declared.Refusal.the-variants.{TextTooLong, TextBytesMissing, SetSize, PatternLength, PatternBytesMissing, FixedBytesMissing, BeyondEnd}
-use Rattle.set.specs.PatternSet.{PatternSet}
-use Rattle.set.specs.SetMachine.{SetRun}
-use Rattle.set.specs.Verdict.{Request, rowsFrom, markBeyond, rows, machine, verdict, numberOfRefusal, listAfter, Carries, Searched}
+use Rattle.set_rules.specs.PatternSet.{PatternSet}
+use Rattle.set_rules.specs.SetMachine.{SetRun}
+use Rattle.set_rules.specs.Verdict.{Request, rowsFrom, markBeyond, rows, machine, verdict, listAfter}
+use Rattle.set.specs.Promise.{numberOfRefusal, Carries, Searched}
 
 -- ---- the numbers that are given
 
--- what holds of the number of each row
-Each : (ℕ → Type 0) → List Row → Type 0
-Each P [] = Unit
-Each P (r ∷ l) = P (r .number) × Each P l
-
-each-append : (P : ℕ → Type 0) (a b : List Row) → Each P a → Each P b → Each P (a ++ b)
-unfolding Each
-each-append P [] b p q = q
-each-append P (r ∷ a) b p q = (p .0, each-append P a b (p .1) q)
-
--- holds of a number that is given
-given : {A : Type 0} (P : ℕ → Type 0) (a : A) (table : List Row) (k : ℕ) → Each P table → judge table a ≡ refused k → P k
-unfolding Each judge
-given P a [] k e h = let z : _≡_ {A = ℕ} 0 1 = cc in absurd (omega arith)
-given {A} P a (r ∷ l) k e h = go (r .holds) (given P a l k (e .1)) h
-  where
-    go : (c : Bool) → (judge l a ≡ refused k → P k) → cond {A = Verdict A} c (refused (r .number)) (judge l a) ≡ refused k → P k
-    go true ih g = let same : r .number ≡ k = cc in rw same at (e .0)
-    go false ih g = ih g
-
 pattern-rows : (P : ℕ → Type 0) (ws : PatternSet) → P 3 → P 4 → P 17 → (i k : ℕ) → Each P (rowsFrom ws i k)
-unfolding rowsFrom Each
+unfolding rowsFrom
 pattern-rows P ws a b c i zero = tt
 pattern-rows P ws a b c i (suc k) = (a, (b, (c, pattern-rows P ws a b c (suc i) k)))
 
 -- 1, 2, 18, 3, 4, 17 and 6, and no others
 pub numbers-are : (P : ℕ → Type 0) → P 1 → P 2 → P 18 → P 3 → P 4 → P 17 → P 6
     → {A : Type 0} (a : A) (t : Packed) (ws : PatternSet) (s k : ℕ) → judge (rows t ws s) a ≡ refused k → P k
-unfolding rows Each
+unfolding rows
 numbers-are P one two eighteen three four seventeen six a t ws s k h =
-    given P a (rows t ws s) k
+    given a P (rows t ws s) k
     (one, (two, (eighteen, each-append P (rowsFrom ws 0 (length (ws .counts))) (markBeyond t ws s ∷ []) (pattern-rows P ws three four seventeen 0 (length (ws .counts))) (six, tt)))) h
 
 -- ---- one answer for each request
@@ -99,9 +79,6 @@ carries-only a r c = λ i. record {
   stop = (sym (stop-back (a .stop)) ∙ ap stopFor (c .ending)) i;
 }
 
-accepted-not-refused : (v : Verdict SetRun) (r : SetRun) (k : ℕ) → v ≡ accepted r → v ≡ refused k → ⊥
-accepted-not-refused v r k p q = let z : _≡_ {A = ℕ} 0 1 = cc in omega arith
-
 -- what two calls with the same request have in common
 pub record Same (o p : Outcome) (l m : List ℕ) : Type 0 where
   pub outcome : o ≡ p
@@ -113,8 +90,8 @@ unique q (Accepted a) (Accepted b) l m c d =
       outcome = ap {B = Outcome} Accepted (carries-only a (machine q) (c .answer) ∙ sym (carries-only b (machine q) (d .answer)));
       list = c .list-is ∙ sym (d .list-is);
     }
-unique q (Accepted a) (Refused r) l m c d = absurd (accepted-not-refused (verdict q) _ _ (c .verdict-is) (d .verdict-is))
-unique q (Refused r) (Accepted a) l m c d = absurd (accepted-not-refused (verdict q) _ _ (d .verdict-is) (c .verdict-is))
+unique q (Accepted a) (Refused r) l m c d = absurd (refused-not-accepted (verdict q) _ _ (d .verdict-is) (c .verdict-is))
+unique q (Refused r) (Accepted a) l m c d = absurd (refused-not-accepted (verdict q) _ _ (c .verdict-is) (d .verdict-is))
 unique q (Refused r) (Refused t) l m c d =
     let first = c .verdict-is in
     let second = d .verdict-is in

@@ -14,9 +14,9 @@ use Rattle.rules.specs.Ranges.{among}
 use Rattle.rules.specs.Occurrence.{occurs}
 use Rattle.matcher.specs.Progress.{Writing}
 use Rattle.matcher.proofs.SingleBits.{trailing-below, trailing-lt}
-use Rattle.set.specs.PatternSet.{PatternSet, patternAt}
-use Rattle.set.specs.Hits.{standing}
-use Rattle.set.specs.Verdict.{roomIn}
+use Rattle.set_rules.specs.PatternSet.{PatternSet, patternAt}
+use Rattle.set_rules.specs.Hits.{standing}
+use Rattle.set_rules.specs.Verdict.{roomIn}
 use Rattle.set.specs.Fronts.{begins, Flags, Tables}
 use Rattle.set.specs.Parts.{Looked, Marked, PairsWritten, Listing, Blocked}
 use Rattle.set.proofs.Scanning.{looked-flags}

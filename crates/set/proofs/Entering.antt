@@ -14,20 +14,20 @@ use lib.Dec.{ltb, eqb}
 use lib.ListN.{length, getD, set, drop, length-set, length-drop}
 use lib.Pow.{shl-exact}
 use lib.Seq.{getD-set-same, getD-set-other}
-use borrow.Author.Tests.{lt-ltb, le-ltb, eq-eqb, ne-eqb}
+use borrow.Author.Tests.{lt-ltb, le-ltb, eqb-true, eqb-false, eq-eqb, ne-eqb}
 use Rattle.bits.specs.Packed.{weight, bitOf, bitAt, bitsAt, bytesFor}
-use Rattle.bits.proofs.Weight.{shl-high, weight-zero, weight-and, weight-or}
+use Rattle.bits.proofs.Weight.{weight-shr, shl-high, weight-zero, weight-ones, weight-and, weight-or, same-weights}
 use Rattle.bits.proofs.Run.{bit-lt, bit-of-bits}
-use Rattle.rules.specs.Ranges.{implies}
+use Rattle.rules.specs.Ranges.{implies, every}
 use Rattle.rules.specs.Pattern.{Pattern, isFixed, agrees}
-use Rattle.rules.proofs.Ranges.{every-same, eq-or-below}
+use Rattle.rules.proofs.Ranges.{split, implies-to, to-implies, same-test, eq-or-below, every-at, to-every, every-same}
 use Rattle.matcher.specs.Words.{sameWhere}
 use Rattle.matcher.specs.Lined.{Only}
 use Rattle.matcher.proofs.Words.{head-is}
 use Rattle.matcher.proofs.SingleBits.{weight-power}
 use Rattle.matcher.proofs.LinedCells.{only-none, only-set}
 use Rattle.matcher.specs.Progress.{HeadOf}
-use Rattle.set.specs.PatternSet.{PatternSet, startOf, patternAt}
+use Rattle.set_rules.specs.PatternSet.{PatternSet, startOf, patternAt}
 use Rattle.set.specs.Fronts.{begins, Flags, Halves, Tables, front, Kept}
 use Rattle.set.specs.Parts.{GoodSet, HalfEntered, Entered, RowPaired, PairedUp}
 use Rattle.set.proofs.Begins.{begins-parts}
@@ -76,6 +76,56 @@ module _ (at value care flag : ℕ) (before : List ℕ) where
 
   pub half-all : (x : ℕ) (cells : List ℕ) → 16 ≤ x → HalfTo at value care flag x before cells → HalfEntered at value care flag before cells
   half-all x cells h so-far = record { entered = λ y l. so-far .done y (omega arith); only = so-far .only }
+
+-- Four fixed bits: the value of the word's own first four bits alone agrees
+
+module _ (value care : ℕ) (small : value < 2 ^ 64) (all : care / 2 ^ 60 ≡ 15) where
+  fixed-bit : (i : ℕ) → i < 4 → weight care (60 + i) ≡ 1
+  fixed-bit i l = sym (weight-shr care 60 i) ∙ rw all (weight-ones 4 i l)
+
+  shifted-bit : (x i : ℕ) → i < 4 → weight (x * 2 ^ 60 % 2 ^ 64) (60 + i) ≡ weight x i
+  shifted-bit x i l = let same : 60 + i - 60 ≡ i = omega arith in shl-high x 60 (60 + i) (omega arith) (omega arith) ∙ ap (weight x) same
+
+  pub one-agrees : (x : ℕ) → x < 16 → sameWhere (x * 2 ^ 60 % 2 ^ 64) value care 4 ≡ eqb x (value / 2 ^ 60)
+  unfolding sameWhere
+  one-agrees x few = same-test _ _ to back
+    where
+      to : every 4 (λ j. implies (eqb (bitOf 64 care j) 1) (eqb (bitOf 64 (x * 2 ^ 60 % 2 ^ 64) j) (bitOf 64 value j))) ≡ true → eqb x (value / 2 ^ 60) ≡ true
+      to h = eq-eqb _ _ (same-weights 4 x (value / 2 ^ 60) few (omega arith) each)
+        where
+          each : (i : ℕ) → i < 4 → weight x i ≡ weight (value / 2 ^ 60) i
+          each i l =
+              let there : 63 - (3 - i) ≡ 60 + i = omega arith in
+              let agree = rw there at (every-at 4 _ h (3 - i) (omega arith)) in
+              sym (shifted-bit x i l) ∙ eqb-true _ _ (implies-to _ _ agree (eq-eqb _ _ (fixed-bit i l))) ∙ sym (weight-shr value 60 i)
+
+      back-bit : x ≡ value / 2 ^ 60 → (j : ℕ) → j < 4 → weight (x * 2 ^ 60 % 2 ^ 64) (63 - j) ≡ weight value (63 - j)
+      back-bit h j l =
+          let there : 63 - j ≡ 60 + (3 - j) = omega arith in
+          rw there (shifted-bit x (3 - j) (omega arith) ∙ ap (λ (z : ℕ). weight z (3 - j)) h ∙ weight-shr value 60 (3 - j))
+
+      back : eqb x (value / 2 ^ 60) ≡ true → every 4 (λ j. implies (eqb (bitOf 64 care j) 1) (eqb (bitOf 64 (x * 2 ^ 60 % 2 ^ 64) j) (bitOf 64 value j))) ≡ true
+      back h =
+          to-every 4 (λ j. implies (eqb (bitOf 64 care j) 1) (eqb (bitOf 64 (x * 2 ^ 60 % 2 ^ 64) j) (bitOf 64 value j)))
+          (λ j l.
+          to-implies (eqb (bitOf 64 care j) 1) (eqb (bitOf 64 (x * 2 ^ 60 % 2 ^ 64) j) (bitOf 64 value j))
+          (λ e. eq-eqb (bitOf 64 (x * 2 ^ 60 % 2 ^ 64) j) (bitOf 64 value j) (back-bit (eqb-true x (value / 2 ^ 60) h) j l)))
+
+  -- so one store enters the pattern
+  pub half-one : (at flag : ℕ) (before : List ℕ) → at + 16 ≤ length before
+      → HalfEntered at value care flag before (set before (at + value / 2 ^ 60) (bitOr (getD before (at + value / 2 ^ 60) 0) flag))
+  half-one at flag before room =
+      record { entered = λ x l. go x l (split (eqb x (value / 2 ^ 60))); only = only-set (at + value / 2 ^ 60) new only-none (omega arith) (omega arith) }
+    where
+      new : ℕ
+      new = bitOr (getD before (at + value / 2 ^ 60) 0) flag
+
+      go : (x : ℕ) → x < 16 → (eqb x (value / 2 ^ 60) ≡ true) ⊎ (eqb x (value / 2 ^ 60) ≡ false)
+          → getD (set before (at + value / 2 ^ 60) new) (at + x) 0 ≡ withFlag value care flag x (getD before (at + x) 0)
+      go x l (inl e) = rw (one-agrees x l, e, eqb-true x (value / 2 ^ 60) e) (getD-set-same before (at + value / 2 ^ 60) new 0 (omega arith))
+      go x l (inr e) =
+          rw (one-agrees x l, e)
+          (getD-set-other before (at + value / 2 ^ 60) (at + x) new 0 (λ q. absurd (eqb-false x (value / 2 ^ 60) e (omega arith))) ∙ sym (or-zero-r _))
 
 -- All eight groups
 

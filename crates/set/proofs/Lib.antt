@@ -1,14 +1,9 @@
 -- The laws of the definitions and the theorems about them.
-pub mod Hits
-pub mod SetMachine
 pub mod Rows
 pub mod Answers
 pub mod Calls
 pub mod Single
-pub mod Order
-pub mod Examples
 pub mod Progress
-pub mod Padding
 pub mod Begins
 pub mod Entering
 pub mod Scanning

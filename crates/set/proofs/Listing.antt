@@ -22,8 +22,8 @@ use Rattle.rules.proofs.Ranges.{split, eq-or-below, among-append, among-same, a
 use Rattle.matcher.specs.Progress.{Writing}
 use Rattle.matcher.proofs.SingleBits.{trailing-below, trailing-at, trailing-lt, lowest-gone, others-stay, weight-power}
 use Rattle.matcher.proofs.Writing.{writing-none, writing-more}
-use Rattle.set.specs.PatternSet.{PatternSet, patternAt}
-use Rattle.set.specs.Hits.{standing}
+use Rattle.set_rules.specs.PatternSet.{PatternSet, patternAt}
+use Rattle.set_rules.specs.Hits.{standing}
 use Rattle.set.specs.Fronts.{begins, Flags, Lengths}
 use Rattle.set.specs.Parts.{Listed}
 use Rattle.set.proofs.Standing.{stands-short, unset, set-begins}

@@ -11,13 +11,14 @@ use Rattle.rules.specs.Occurrence.{occurs}
 use Rattle.rules.proofs.Ranges.{eq-or-below, among-length}
 use Rattle.set.specs.declared.Answer.{Answer}
 use Rattle.set.specs.declared.Outcome.the-variants.{Accepted}
-use Rattle.set.specs.PatternSet.{patternAt, setPlaces}
-use Rattle.set.specs.Hits.{standing, hitsAt}
-use Rattle.set.specs.SetMachine.{SetRun, noRoom}
-use Rattle.set.specs.Verdict.{Request, roomIn, machine, Searched}
+use Rattle.set_rules.specs.PatternSet.{patternAt, setPlaces}
+use Rattle.set_rules.specs.Hits.{standing, hitsAt}
+use Rattle.set_rules.specs.SetMachine.{SetRun, noRoom}
+use Rattle.set_rules.specs.Verdict.{Request, roomIn, machine}
+use Rattle.set.specs.Promise.{Searched}
 use Rattle.set.specs.Progress.{Progress}
-use Rattle.set.proofs.Hits.{all-none, length-at}
-use Rattle.set.proofs.SetMachine.{run-full}
+use Rattle.set_rules.proofs.Hits.{all-none, length-at}
+use Rattle.set_rules.proofs.SetMachine.{run-full}
 use Rattle.set.proofs.Calls.{accepted-left}
 
 -- at most one hit for each pattern

@@ -16,8 +16,8 @@ use Rattle.search.specs.Verdict.{Row, Verdict, refused, accepted, judge, AllFai
 use Rattle.search.proofs.Verdict.{past, judge-accepted}
 use Rattle.search.proofs.Accepting.{neither}
 use Rattle.matcher.specs.Progress.{GoodPattern}
-use Rattle.set.specs.PatternSet.{PatternSet, startOf, patternFrom, patternAt, setPlaces}
-use Rattle.set.specs.Verdict.{setSize, patternRows, rowsFrom, markBeyond, rows}
+use Rattle.set_rules.specs.PatternSet.{PatternSet, startOf, patternFrom, patternAt, setPlaces}
+use Rattle.set_rules.specs.Verdict.{setSize, patternRows, rowsFrom, markBeyond, rows}
 use Rattle.set.specs.Parts.{GoodSet, Allowed}
 
 -- ---- tables in parts

@@ -15,13 +15,13 @@ use Rattle.search.specs.Parts.{endingAt}
 use Rattle.matcher.specs.Progress.{Writing}
 use Rattle.matcher.proofs.Writing.{sets-append}
 use Rattle.set.specs.declared.Answer.{Answer}
-use Rattle.set.specs.PatternSet.{PatternSet, setPlaces}
-use Rattle.set.specs.Hits.{Hit, hitAt, standing, hitsAt, allHits, cellsOf}
-use Rattle.set.specs.SetMachine.{SetRun, halted, noRoom, onward, setRun}
-use Rattle.set.specs.Verdict.{roomIn, listAfter}
+use Rattle.set_rules.specs.PatternSet.{PatternSet, setPlaces}
+use Rattle.set_rules.specs.Hits.{Hit, hitAt, standing, hitsAt, allHits, cellsOf}
+use Rattle.set_rules.specs.SetMachine.{SetRun, halted, noRoom, onward, setRun}
+use Rattle.set_rules.specs.Verdict.{roomIn, listAfter}
 use Rattle.set.specs.Parts.{PairsWritten, Listing, Ran, Tells, Leaves}
-use Rattle.set.proofs.Hits.{all-append, all-none, all-one, all-further, length-at}
-use Rattle.set.proofs.SetMachine.{run-to-limit, run-to-full}
+use Rattle.set_rules.proofs.Hits.{all-append, all-none, all-one, all-further, length-at}
+use Rattle.set_rules.proofs.SetMachine.{run-to-limit, run-to-full}
 use Rattle.set.proofs.Standing.{cells-append, cells-length}
 
 -- the numbers found are the front of the cells that hold them

@@ -27,13 +27,14 @@ use Rattle.search.specs.Verdict.{Row, refused, accepted, judge, textTooLong, te
 use Rattle.search.proofs.Verdict.{judge-accepted, accepted-judge}
 use Rattle.set.specs.declared.Outcome.{Outcome}
 use Rattle.set.specs.declared.Outcome.the-variants.{Accepted, Refused}
-use Rattle.set.specs.PatternSet.{PatternSet, startOf, patternAt, largest, setPlaces}
-use Rattle.set.specs.Hits.{Hit, hitAt, standing, hitsAt}
-use Rattle.set.specs.SetMachine.{SetRun, halted, noRoom, onward, setRun}
-use Rattle.set.specs.Verdict.{Request, rowsFrom, rows, machine, verdict, numberOfRefusal, Searched}
+use Rattle.set_rules.specs.PatternSet.{PatternSet, startOf, patternAt, largest, setPlaces}
+use Rattle.set_rules.specs.Hits.{Hit, hitAt, standing, hitsAt}
+use Rattle.set_rules.specs.SetMachine.{SetRun, halted, noRoom, onward, setRun}
+use Rattle.set_rules.specs.Verdict.{Request, rowsFrom, rows, machine, verdict}
+use Rattle.set.specs.Promise.{numberOfRefusal, Searched}
 use Rattle.set.specs.Single.{OnePattern, withZero, OneMachine, SameAsked, SameOutcome, Single}
-use Rattle.set.proofs.Hits.{pairs-cells}
-use Rattle.set.proofs.SetMachine.{run-spent, run-ended, run-step, run-full}
+use Rattle.set_rules.proofs.Hits.{pairs-cells}
+use Rattle.set_rules.proofs.SetMachine.{run-spent, run-ended, run-step, run-full}
 use Rattle.set.proofs.Rows.{judge-again}
 
 -- ---- the two machines

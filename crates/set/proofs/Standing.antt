@@ -27,8 +27,8 @@ use Rattle.rules.proofs.Occurrence.{to-matches, occurs-iff, occurs-inside, none
 use Rattle.matcher.specs.Progress.{textOf, patternOf, HeadOf, GoodPattern, Writing}
 use Rattle.matcher.proofs.SingleBits.{trailing-below, trailing-at, trailing-lt}
 use Rattle.matcher.proofs.Writing.{writing-none, writing-more, sets-append}
-use Rattle.set.specs.PatternSet.{PatternSet, startOf, patternAt}
-use Rattle.set.specs.Hits.{Hit, hitAt, standing, cellsOf}
+use Rattle.set_rules.specs.PatternSet.{PatternSet, startOf, patternAt}
+use Rattle.set_rules.specs.Hits.{Hit, hitAt, standing, cellsOf}
 use Rattle.set.specs.Fronts.{begins, Flags}
 use Rattle.set.specs.Parts.{PairsWritten}
 

@@ -12,10 +12,11 @@ use Rattle.search.specs.Verdict.{Verdict, refused, accepted, endingOf}
 use Rattle.search.specs.Calls.{Carried, Result, later}
 use Rattle.set.specs.declared.Outcome.{Outcome}
 use Rattle.set.specs.declared.Outcome.the-variants.{Accepted, Refused}
-use Rattle.set.specs.PatternSet.{PatternSet}
-use Rattle.set.specs.Hits.{Hit, IsHit, InOrder, allHits, pairsOf}
-use Rattle.set.specs.SetMachine.{SetRun}
-use Rattle.set.specs.Verdict.{Request, verdict, numberOfRefusal, listAfter, Searched}
+use Rattle.set_rules.specs.PatternSet.{PatternSet}
+use Rattle.set_rules.specs.Hits.{Hit, IsHit, InOrder, allHits, pairsOf}
+use Rattle.set_rules.specs.SetMachine.{SetRun}
+use Rattle.set_rules.specs.Verdict.{Request, verdict, listAfter}
+use Rattle.set.specs.Promise.{numberOfRefusal, Searched}
 
 -- what a call is asked beside text, set and mark
 pub record Asked : Type 0 where

@@ -10,7 +10,7 @@ use Rattle.bits.specs.Packed.{weight, bitOf}
 use Rattle.rules.specs.Ranges.{implies, every}
 use Rattle.rules.specs.Pattern.{Pattern, agrees}
 use Rattle.matcher.specs.Progress.{HeadOf}
-use Rattle.set.specs.PatternSet.{PatternSet, startOf, patternAt}
+use Rattle.set_rules.specs.PatternSet.{PatternSet, startOf, patternAt}
 
 -- the pattern's bits from bit `from` on agree with the k bits of x, as far as the pattern goes
 unfoldable pub begins : Pattern → ℕ → ℕ → ℕ → Bool

@@ -5,7 +5,7 @@ use mathlib.Core.Bool.{Bool, true, false, cond}
 use mathlib.Core.List.{List, map}
 use lib.Bits.{bitAnd, bitOr}
 use lib.Dec.{eqb}
-use lib.ListN.{length, getD, take}
+use lib.ListN.{length, getD}
 use lib.Seq.{sets}
 use Rattle.bits.specs.Packed.{Packed, bytesFor, bitsAt, weight}
 use Rattle.rules.specs.Ranges.{among}
@@ -18,10 +18,11 @@ use Rattle.matcher.specs.Progress.{GoodPattern, Writing}
 use Rattle.set.specs.declared.Answer.{Answer}
 use Rattle.set.specs.declared.check.Checked.{Checked}
 use Rattle.set.specs.declared.check.Checked.the-variants.{Passed, Refused}
-use Rattle.set.specs.PatternSet.{PatternSet, patternAt, setPlaces}
-use Rattle.set.specs.Hits.{hitAt, standing, allHits, cellsOf}
-use Rattle.set.specs.SetMachine.{setRun}
-use Rattle.set.specs.Verdict.{numberOfRefusal, roomIn, listAfter, Carries}
+use Rattle.set_rules.specs.PatternSet.{PatternSet, patternAt, setPlaces}
+use Rattle.set_rules.specs.Hits.{hitAt, standing, allHits, cellsOf}
+use Rattle.set_rules.specs.SetMachine.{setRun}
+use Rattle.set_rules.specs.Verdict.{roomIn, listAfter}
+use Rattle.set.specs.Promise.{numberOfRefusal, Carries}
 use Rattle.set.specs.Fronts.{begins, Flags, front, Kept, Lengths}
 
 -- the runs and the counts as the set
@@ -33,8 +34,8 @@ abbrev pub checkOf : Checked → Verdict (Unit {0})
 checkOf Passed = accepted tt
 checkOf (Refused r) = refused (numberOfRefusal r)
 
--- What a set is when it has passed the refusals. That plain takes patterns of any length makes the method named here no
--- matter.
+-- What a set is when it has passed the refusals. `GoodPattern` names a method; plain takes patterns of every length, so naming it
+-- asks nothing more.
 pub record GoodSet (ws : PatternSet) : Type 0 where
   pub some : 0 < length (ws .counts)
   pub few : length (ws .counts) ≤ 64

@@ -17,10 +17,11 @@ use Rattle.search.specs.Verdict.{endingOf}
 use Rattle.set.specs.declared.Answer.{Answer}
 use Rattle.set.specs.declared.Outcome.{Outcome}
 use Rattle.set.specs.declared.Outcome.the-variants.{Accepted, Refused}
-use Rattle.set.specs.PatternSet.{PatternSet, patternAt}
-use Rattle.set.specs.Hits.{Hit, hitAt, pairsOf}
-use Rattle.set.specs.SetMachine.{setRun}
-use Rattle.set.specs.Verdict.{Request, numberOfRefusal, Searched}
+use Rattle.set_rules.specs.PatternSet.{PatternSet, patternAt}
+use Rattle.set_rules.specs.Hits.{Hit, hitAt, pairsOf}
+use Rattle.set_rules.specs.SetMachine.{setRun}
+use Rattle.set_rules.specs.Verdict.{Request}
+use Rattle.set.specs.Promise.{numberOfRefusal, Searched}
 
 -- "With one word"
 abbrev pub OnePattern : PatternSet → Type 0

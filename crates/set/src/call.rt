@@ -13,7 +13,7 @@ ghost use mathlib.Core.Path.{_≡_};
 ghost use Prim.Native.Nat.{_+_, _/_, _≤_, min};
 ghost use lib.ListN.{length};
 ghost use Rattle.matcher.specs.Progress.{textOf};
-ghost use Rattle.set.specs.PatternSet.{setPlaces};
+ghost use Rattle.set_rules.specs.PatternSet.{setPlaces};
 ghost use Rattle.set.specs.Fronts.{Tables, Kept, Lengths};
 ghost use Rattle.set.specs.Parts.{setOf, Allowed, Blocked, BlockPassed, Ran, Tells, Leaves};
 
@@ -114,7 +114,7 @@ fn block(
 }
 
 // Steps from s until the places, the budget or the room for pairs are at an end, 32 places at a time. The steps of places
-// without a flag find nothing; if the pairs of a place do not all fit, its step is not one of them.
+// without a flag find nothing; if the pairs of a place do not all fit, its step is not counted.
 fn run(
     s: Place,
     text: &[u8],

@@ -1,6 +1,7 @@
 // Refusals 1, 2, 18, then 3, 4 and 17 for each pattern in turn, and 6.
 use crate::Refusal;
 use crate::step::Sure;
+use bits::ByteNo;
 use bits::Place;
 ghost use mathlib.Core.Path.{_≡_};
 ghost use mathlib.Core.Bool.{cond};
@@ -9,8 +10,8 @@ ghost use lib.Dec.{ltb};
 ghost use lib.ListN.{length, getD};
 ghost use Rattle.matcher.specs.Progress.{textOf};
 ghost use Rattle.search.specs.Verdict.{judge};
-ghost use Rattle.set.specs.PatternSet.{patternFrom, largest};
-ghost use Rattle.set.specs.Verdict.{patternRows, rows};
+ghost use Rattle.set_rules.specs.PatternSet.{patternFrom, largest};
+ghost use Rattle.set_rules.specs.Verdict.{patternRows, rows};
 ghost use Rattle.set.specs.Fronts.{Lengths};
 ghost use Rattle.set.specs.Parts.{setOf, checkOf};
 
@@ -78,9 +79,9 @@ pub fn sure(n: u32, counts: &[u64]) -> Sure
 }
 
 // Refusals 3, 4 and 17 of the pattern of m bits that begins at byte `start`.
-fn check_pattern(patterns: &[u8], fixed: &[u8], start: u64, m: u64) -> Checked
-    requires { ⌜ start ≤ 2 ^ 30 ⌝ }
-    ensures { λ r. ⌜ checkOf r ≡ judge (patternRows (patternFrom (now (patterns .entry)) (now (fixed .entry)) start m)) tt ⌝ }
+fn check_pattern(patterns: &[u8], fixed: &[u8], start: ByteNo, m: u64) -> Checked
+    requires { ⌜ start .0 ≤ 2 ^ 30 ⌝ }
+    ensures { λ r. ⌜ checkOf r ≡ judge (patternRows (patternFrom (now (patterns .entry)) (now (fixed .entry)) (start .0) m)) tt ⌝ }
 {
     if m == 0 {
         return Checked::Refused(Refusal::PatternLength);
@@ -88,7 +89,7 @@ fn check_pattern(patterns: &[u8], fixed: &[u8], start: u64, m: u64) -> Checked
     if 2048 < m {
         return Checked::Refused(Refusal::PatternLength);
     }
-    let end = start + bits::bytes_for(m);
+    let end = start.0 as u64 + bits::bytes_for(m);
     if (patterns.len() as u64) < end {
         return Checked::Refused(Refusal::PatternBytesMissing);
     }
@@ -121,7 +122,7 @@ pub fn check(
     if 64 < counts.len() {
         return Checked::Refused(Refusal::SetSize);
     }
-    let mut start = 0u64;
+    let mut start = ByteNo(0);
     let mut i = 0usize;
     while i < counts.len() {
         let m = counts[i];
@@ -129,7 +130,8 @@ pub fn check(
         let Checked::Passed = one else {
             return one;
         };
-        start += bits::bytes_for(m);
+        let next = start.0 + bits::bytes_for(m) as usize;
+        start = ByteNo(next);
         i += 1;
     }
     if places(n, counts) < mark.0 as u64 {

@@ -16,7 +16,7 @@ use search::Mark;
 use search::Stop;
 ghost use mathlib.Core.Path.{_≡_};
 ghost use Rattle.matcher.specs.Progress.{textOf};
-ghost use Rattle.set.specs.Verdict.{numberOfRefusal, Searched};
+ghost use Rattle.set.specs.Promise.{numberOfRefusal, Searched};
 ghost use Rattle.set.specs.Parts.{setOf};
 
 // The answer of an accepted call. The occurrences are pairs.

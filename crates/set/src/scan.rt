@@ -5,7 +5,7 @@ ghost use Prim.Native.Nat.{_≤_, _<_};
 ghost use lib.ListN.{length};
 ghost use Rattle.set.specs.Parts.{FourFound, Looked, Marked};
 
-// The flags of the four places at offset i, the first of which shows the first bit of y. The answer is 0 if none stands.
+// The flags of the four places at offset i, the first of which shows the first bit of y. The answer is 0 only if none stands.
 fn four(tables: &[u64], y: u64, i: usize, found: &mut [u64]) -> u64
     requires { ⌜ (1024 ≤ length (now tables)) × (i < 8) × (32 ≤ length (now found)) ⌝ }
     ensures { λ r. ⌜ FourFound (now (tables .entry)) y i (now (found .entry)) (now (found .exit)) r ⌝ }
@@ -28,7 +28,7 @@ fn four(tables: &[u64], y: u64, i: usize, found: &mut [u64]) -> u64
     (first | second) | (third | fourth)
 }
 
-// The flags of the 32 places from the first bit of the word on. The answer is 0 if none stands.
+// The flags of the 32 places from the first bit of the word on. The answer is 0 only if none stands.
 pub fn look(tables: &[u64], word: u64, found: &mut [u64]) -> u64
     requires { ⌜ (1024 ≤ length (now tables)) × (32 ≤ length (now found)) ⌝ }
     ensures { λ r. ⌜ Looked (now (tables .entry)) word (now (found .entry)) (now (found .exit)) r ⌝ }

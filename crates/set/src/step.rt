@@ -9,8 +9,8 @@ ghost use lib.ListN.{length, take};
 ghost use Rattle.bits.specs.Packed.{bitsAt};
 ghost use Rattle.rules.specs.Occurrence.{occurs};
 ghost use Rattle.matcher.specs.Progress.{textOf, Writing};
-ghost use Rattle.set.specs.PatternSet.{patternAt};
-ghost use Rattle.set.specs.Hits.{standing};
+ghost use Rattle.set_rules.specs.PatternSet.{patternAt};
+ghost use Rattle.set_rules.specs.Hits.{standing};
 ghost use Rattle.set.specs.Fronts.{begins, Flags, Kept, Lengths};
 ghost use Rattle.set.specs.Parts.{setOf, GoodSet, Listed, PairsWritten};
 
@@ -124,8 +124,9 @@ pub fn write(list: &mut [u32], had: usize, p: Place, numbers: &[u32], count: usi
     let mut j = 0usize;
     while j < count {
         let at = 2 * (had + j);
+        let i = numbers[j];
         list[at] = s;
-        list[at + 1] = numbers[j];
+        list[at + 1] = i;
         j += 1;
     }
 }

@@ -24,6 +24,19 @@ fn enter_half(cells: &mut [u64], at: usize, value: u64, care: u64, flag: u64)
     }
 }
 
+// The same by one store where all four bits are fixed, since then one value alone agrees.
+fn enter_four(cells: &mut [u64], at: usize, value: u64, care: u64, flag: u64)
+    requires { ⌜ at + 16 ≤ length (now cells) ⌝ }
+    ensures { λ _. ⌜ HalfEntered at value care flag (now (cells .entry)) (now (cells .exit)) ⌝ }
+{
+    if care >> 60 == 15 {
+        let x = (value >> 60) as usize;
+        cells[at + x] = cells[at + x] | flag;
+    } else {
+        enter_half(cells, at, value, care, flag);
+    }
+}
+
 // The same for the first 32 bits, four at a time.
 fn enter(cells: &mut [u64], value: u64, care: u64, flag: u64)
     requires { ⌜ 128 ≤ length (now cells) ⌝ }
@@ -31,7 +44,7 @@ fn enter(cells: &mut [u64], value: u64, care: u64, flag: u64)
 {
     let mut g = 0usize;
     while g < 8 {
-        enter_half(cells, 16 * g, value << (4 * g), care << (4 * g), flag);
+        enter_four(cells, 16 * g, value << (4 * g), care << (4 * g), flag);
         g += 1;
     }
 }
@@ -48,17 +61,19 @@ pub fn enter_all(
     requires { ⌜ (192 ≤ length (now rows)) × (128 ≤ length (now halves)) × ((z : ℕ) → getD (now halves) z 0 ≡ 0) ⌝ }
     ensures { λ _. ⌜ Kept (setOf (now (patterns .entry)) (now (fixed .entry)) (now (counts .entry))) (length (now (counts .entry))) (now (rows .exit)) × Halves (setOf (now (patterns .entry)) (now (fixed .entry)) (now (counts .entry))) (length (now (counts .entry))) (now (halves .exit)) ⌝ }
 {
-    let mut start = 0usize;
+    let mut start = ByteNo(0);
     let mut i = 0usize;
     while i < counts.len() {
         let m = counts[i];
-        let value = load::word_near_end(&patterns[start..], ByteNo(0));
-        let care = load::word_near_end(&fixed[start..], ByteNo(0)) & compare::front(m as u32);
+        let from = start.0;
+        let value = load::word_near_end(&patterns[from..], ByteNo(0));
+        let care = load::word_near_end(&fixed[from..], ByteNo(0)) & compare::front(m as u32);
         enter(halves, value, care, 1 << i);
-        rows[i] = start as u64;
+        rows[i] = from as u64;
         rows[64 + i] = value & care;
         rows[128 + i] = care;
-        start += bits::bytes_for(m) as usize;
+        let next = from + bits::bytes_for(m) as usize;
+        start = ByteNo(next);
         i += 1;
     }
 }
@@ -76,7 +91,7 @@ fn row(halves: &[u64], from: usize, first: u64, cells: &mut [u64], at: usize)
     }
 }
 
-// The words for eight bits each: those of the first four and of the last four that agree.
+// The words for eight bits each: each is the `and` of the word of its first four bits and that of its last four.
 pub fn pair_up(halves: &[u64], cells: &mut [u64])
     requires { ⌜ (128 ≤ length (now halves)) × (1024 ≤ length (now cells)) ⌝ }
     ensures { λ _. ⌜ PairedUp (now (halves .entry)) (now (cells .exit)) × (length (now (cells .exit)) ≡ length (now (cells .entry))) ⌝ }

@@ -12,7 +12,7 @@ use draws::packed::part;
 use search::Mark;
 use set::Outcome;
 
-// Where the set's patterns begin, in bytes and in bits, behind a buffer with a text and one pattern; then come their second
+// Where the set's patterns begin, in bytes and in bits, after a buffer with a text and one pattern; then come their second
 // runs, and then the end. There is room for 65 patterns of 2,048 bits, and some bytes.
 pub(crate) const SET: usize = 1073;
 

@@ -259,8 +259,8 @@ fn every_small_set() {
     assert!(words.len() == 12 && texts.len() == 31 && calls > 400_000);
 }
 
-/// A pattern has no hit at or past its own E, whatever the bytes have after the last bit of the text: of the patterns
-/// of 1 to 64 ones, those occur at a place that the bits after it have room for.
+/// A pattern has no hit at or past its own E, whatever the bytes have after the last bit of the text: a pattern of m
+/// ones occurs at just the places from which m bits of the text are left.
 #[test]
 fn each_pattern_to_its_own_end() {
     let random = Random::of("each_pattern_to_its_own_end");

@@ -233,7 +233,7 @@ static void mixed_lengths(void)
     about("mixed lengths");
     as_naively(&q, AT_START, &naive);
     as_naively(&q, AT_END, &naive);
-    q.n = LARGEST_M - 1; /* three of them do not fit */
+    q.n = LARGEST_M - 1; /* two of them do not fit */
     as_naively(&q, AT_END, &naive);
     q.n = 30;
     as_naively(&q, AT_END, &naive);

@@ -10,7 +10,8 @@ use Rattle.matcher.specs.Progress.{textOf}
 use Rattle.set.specs.declared.check.Checked.{Checked}
 use Rattle.set.specs.declared.check.Checked.the-variants.{Passed, Refused}
 use Rattle.set.specs.declared.Refusal.{Refusal}
-use Rattle.set.specs.Verdict.{Request, rows, machine, verdict, numberOfRefusal}
+use Rattle.set_rules.specs.Verdict.{Request, rows, machine, verdict}
+use Rattle.set.specs.Promise.{numberOfRefusal}
 use Rattle.set.specs.Parts.{setOf, checkOf, Allowed}
 use Rattle.set.proofs.Rows.{allowed, judge-again}
 use Rattle.set.proofs.search_set.Statement.{statement}

@@ -11,8 +11,8 @@ use Rattle.bits.specs.Packed.{Packed}
 use Rattle.search.specs.Verdict.{AllFail, accepted, judge}
 use Rattle.search.proofs.Verdict.{judge-accepted}
 use Rattle.matcher.specs.Progress.{textOf}
-use Rattle.set.specs.PatternSet.{PatternSet, startOf, patternAt, setPlaces}
-use Rattle.set.specs.Verdict.{patternRows, rowsFrom}
+use Rattle.set_rules.specs.PatternSet.{PatternSet, startOf, patternAt, setPlaces}
+use Rattle.set_rules.specs.Verdict.{patternRows, rowsFrom}
 use Rattle.set.specs.Parts.{setOf, checkOf}
 use Rattle.set.proofs.Rows.{row-1, row-2, row-18-none, row-18-many, row-of, row-6, no-row, rows-none, passing, one-good, start-small}
 use Rattle.set.proofs.Entering.{start-next}
@@ -21,7 +21,7 @@ use Rattle.set.proofs.check.check.Tie as tie
 
 abbrev Inv-loop : tie.InvT-loop
 Inv-loop text n patterns fixed counts mark start₀ i₀ start i =
-    (i ≤ length counts) × (start ≡ startOf counts i) × AllFail (rowsFrom (setOf patterns fixed counts) 0 i)
+    (i ≤ length counts) × (start .0 ≡ startOf counts i) × AllFail (rowsFrom (setOf patterns fixed counts) 0 i)
 
 abbrev μ-loop : tie.MeasureT-loop
 μ-loop text n patterns fixed counts mark start₀ i₀ start i = length counts - i
@@ -91,10 +91,10 @@ returns-5 c =
 bytes-for-requires-2 : tie.Need-bytes-for-requires-2 Inv-loop μ-loop
 bytes-for-requires-2 c κs = omega (arith, few c)
 
-add-start : tie.Need-add-start Inv-loop μ-loop
-add-start c =
-    let l = c .before .before .before .before .before .before .loop in
-    omega (arith, few (c .before), c .bytes-for2 .ensures, start-small (asked-set (c .before .before .before .before .before .before .before .before .before .before .before .before .before .before .before .before)) (l .i) (l .inv .2), l .inv .1)
+add-next : tie.Need-add-next Inv-loop μ-loop
+add-next c =
+    let l = c .before .before .before .before .before .before .before .loop in
+    omega (arith, few (c .before .before), c .before .bytes-for2 .ensures, start-small (asked-set (c .before .before .before .before .before .before .before .before .before .before .before .before .before .before .before .before .before)) (l .i) (l .inv .2), l .inv .1)
 
 add-i : tie.Need-add-i Inv-loop μ-loop
 add-i c = search needs
@@ -104,10 +104,10 @@ loop-less c = search needs
 
 loop-again : tie.Need-loop-again Inv-loop μ-loop
 loop-again c =
-    let l = c .before .before .before .before .before .before .loop in (
+    let l = c .before .before .before .before .before .before .before .loop in (
       omega arith,
-      rw (l .inv .1, c .bytes-for2 .ensures) (sym (start-next (now (c .before .before .before .before .before .before .before .before .before .before .before .before .before .before .before .before .args .counts)) (l .i))),
-      passing (asked-set (c .before .before .before .before .before .before .before .before .before .before .before .before .before .before .before .before)) (l .i) (l .inv .2) (passes (c .before)),
+      rw (l .inv .1, c .before .bytes-for2 .ensures) (sym (start-next (now (c .before .before .before .before .before .before .before .before .before .before .before .before .before .before .before .before .before .args .counts)) (l .i))),
+      passing (asked-set (c .before .before .before .before .before .before .before .before .before .before .before .before .before .before .before .before .before)) (l .i) (l .inv .2) (passes (c .before .before)),
     )
 
 places-requires : tie.Need-places-requires Inv-loop μ-loop
@@ -149,7 +149,7 @@ check-spec =
     enum-told-2
     returns-5
     bytes-for-requires-2
-    add-start
+    add-next
     add-i
     loop-less
     loop-again

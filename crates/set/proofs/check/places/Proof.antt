@@ -6,8 +6,8 @@ use Prim.Native.Nat.{ℕ, suc, _+_, _-_, _≤_, max}
 use native.Mathlib.Omega.{arith}
 use denote.Ref.{now}
 use lib.ListN.{length, getD}
-use Rattle.set.specs.PatternSet.{largest}
-use Rattle.set.proofs.Hits.{largest-more}
+use Rattle.set_rules.specs.PatternSet.{largest}
+use Rattle.set_rules.proofs.Hits.{largest-more}
 use Rattle.set.proofs.check.places.Statement.{statement}
 use Rattle.set.proofs.check.places.Tie as tie
 

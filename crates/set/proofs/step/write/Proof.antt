@@ -7,7 +7,7 @@ use native.Mathlib.Omega.{arith}
 use denote.Ref.{now}
 use lib.ListN.{length, take, length-set}
 use lib.Seq.{length-sets}
-use Rattle.set.specs.Hits.{hitAt, cellsOf}
+use Rattle.set_rules.specs.Hits.{hitAt, cellsOf}
 use Rattle.set.specs.Parts.{PairsWritten}
 use Rattle.set.proofs.Standing.{pair-more}
 use Rattle.set.proofs.step.write.Statement.{statement}
@@ -35,23 +35,23 @@ add-at c = omega arith
 mul-at : tie.Need-mul-at Inv-loop μ-loop
 mul-at c = omega arith
 
+mul-i : tie.Need-mul-i Inv-loop μ-loop
+mul-i c = omega (arith, c .before .before .good)
+
+shared-slice-read-i : tie.Need-shared-slice-read-i Inv-loop μ-loop
+shared-slice-read-i c = omega arith
+
 mul-list : tie.Need-mul-list Inv-loop μ-loop
-mul-list c = omega (arith, c .before .before .good)
+mul-list c = omega (arith, c .before .before .before .good)
 
 slice-write-list : tie.Need-slice-write-list Inv-loop μ-loop
-slice-write-list c = omega (arith, long (c .before))
-
-mul-list-2 : tie.Need-mul-list-2 Inv-loop μ-loop
-mul-list-2 c = omega (arith, c .before .before .good)
-
-shared-slice-read-list : tie.Need-shared-slice-read-list Inv-loop μ-loop
-shared-slice-read-list c = omega arith
+slice-write-list c = omega (arith, long (c .before .before))
 
 add-list : tie.Need-add-list Inv-loop μ-loop
 add-list c = omega arith
 
-mul-list-3 : tie.Need-mul-list-3 Inv-loop μ-loop
-mul-list-3 c = omega (arith, c .before .before .before .good)
+mul-list-2 : tie.Need-mul-list-2 Inv-loop μ-loop
+mul-list-2 c = omega (arith, c .before .before .before .good)
 
 slice-write-list-2 : tie.Need-slice-write-list-2 Inv-loop μ-loop
 slice-write-list-2 c = rw length-set (omega (arith, long (c .before .before)))
@@ -85,12 +85,12 @@ write-spec =
     loop-holds
     add-at
     mul-at
+    mul-i
+    shared-slice-read-i
     mul-list
     slice-write-list
-    mul-list-2
-    shared-slice-read-list
     add-list
-    mul-list-3
+    mul-list-2
     slice-write-list-2
     add-j
     loop-less

@@ -17,23 +17,23 @@ abbrev μ-loop : tie.MeasureT-loop
 loop-holds : tie.Need-loop-holds Inv-loop μ-loop
 loop-holds c = let a = c .before .args in (omega arith, entered-none (a .value) (a .care) (a .flag) (now (a .cells)))
 
-mul-enter-half : tie.Need-mul-enter-half Inv-loop μ-loop
-mul-enter-half c = search needs
+mul-enter-four : tie.Need-mul-enter-four Inv-loop μ-loop
+mul-enter-four c = search needs
 
-mul-enter-half-2 : tie.Need-mul-enter-half-2 Inv-loop μ-loop
-mul-enter-half-2 c = search needs
+mul-enter-four-2 : tie.Need-mul-enter-four-2 Inv-loop μ-loop
+mul-enter-four-2 c = search needs
 
-shl-enter-half : tie.Need-shl-enter-half Inv-loop μ-loop
-shl-enter-half c = search needs
+shl-enter-four : tie.Need-shl-enter-four Inv-loop μ-loop
+shl-enter-four c = search needs
 
-mul-enter-half-3 : tie.Need-mul-enter-half-3 Inv-loop μ-loop
-mul-enter-half-3 c = search needs
+mul-enter-four-3 : tie.Need-mul-enter-four-3 Inv-loop μ-loop
+mul-enter-four-3 c = search needs
 
-shl-enter-half-2 : tie.Need-shl-enter-half-2 Inv-loop μ-loop
-shl-enter-half-2 c = search needs
+shl-enter-four-2 : tie.Need-shl-enter-four-2 Inv-loop μ-loop
+shl-enter-four-2 c = search needs
 
-enter-half-requires : tie.Need-enter-half-requires Inv-loop μ-loop
-enter-half-requires c κs = omega (arith, c .before .before .loop .inv .1 .size)
+enter-four-requires : tie.Need-enter-four-requires Inv-loop μ-loop
+enter-four-requires c κs = omega (arith, c .before .before .loop .inv .1 .size)
 
 add-g : tie.Need-add-g Inv-loop μ-loop
 add-g c = search needs
@@ -46,7 +46,7 @@ loop-again c =
     let a = c .before .before .before .before .before .before .before .args in
     let l = c .before .before .before .before .before .loop in (
       omega arith,
-      entered-more (a .value) (a .care) (a .flag) (now (a .cells)) (l .g) (l .cells) _ (l .inv .1) (c .before .before .enter-half .ensures),
+      entered-more (a .value) (a .care) (a .flag) (now (a .cells)) (l .g) (l .cells) _ (l .inv .1) (c .before .before .enter-four .ensures),
     )
 
 same-length : tie.Need-same-length Inv-loop μ-loop
@@ -65,12 +65,12 @@ enter-spec =
     Inv-loop
     μ-loop
     loop-holds
-    mul-enter-half
-    mul-enter-half-2
-    shl-enter-half
-    mul-enter-half-3
-    shl-enter-half-2
-    enter-half-requires
+    mul-enter-four
+    mul-enter-four-2
+    shl-enter-four
+    mul-enter-four-3
+    shl-enter-four-2
+    enter-four-requires
     add-g
     loop-less
     loop-again

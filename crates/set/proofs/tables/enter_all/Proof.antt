@@ -17,7 +17,7 @@ use Rattle.set.proofs.tables.enter_all.Statement.{statement}
 use Rattle.set.proofs.tables.enter_all.Tie as tie
 
 abbrev Inv-loop : tie.InvT-loop
-Inv-loop patterns fixed counts rows₀ halves₀ start₀ i₀ rows halves start i = EnteringAll (setOf patterns fixed counts) i start rows₀ rows halves₀ halves
+Inv-loop patterns fixed counts rows₀ halves₀ start₀ i₀ rows halves start i = EnteringAll (setOf patterns fixed counts) i (start .0) rows₀ rows halves₀ halves
 
 abbrev μ-loop : tie.MeasureT-loop
 μ-loop patterns fixed counts rows₀ halves₀ start₀ i₀ rows halves start i = length counts - i
@@ -25,12 +25,12 @@ abbrev μ-loop : tie.MeasureT-loop
 -- what is known as a turn begins
 inside : (c : tie.In-loop Inv-loop μ-loop)
     → let a = c .before .before .before .before .before .before .before .args in
-    Inside (setOf (now (a .patterns)) (now (a .fixed)) (now (a .counts))) (c .before .loop .i) (c .before .loop .start)
+    Inside (setOf (now (a .patterns)) (now (a .fixed)) (now (a .counts))) (c .before .loop .i) (c .before .loop .start .0)
 inside c =
     let s = c .before .before .before .before .before .before .before in
     let a = s .args in
     let l = c .before .loop in
-    entering-inside (setOf (now (a .patterns)) (now (a .fixed)) (now (a .counts))) (now (a .rows)) (now (a .halves)) (s .pre .0) (l .i) (l .start) (l .rows) (l .halves)
+    entering-inside (setOf (now (a .patterns)) (now (a .fixed)) (now (a .counts))) (now (a .rows)) (now (a .halves)) (s .pre .0) (l .i) (l .start .0) (l .rows) (l .halves)
     (l .inv) (c .loop-test .taken)
 
 loop-holds : tie.Need-loop-holds Inv-loop μ-loop
@@ -108,8 +108,8 @@ slice-write-rows-3 c = simp length-set (omega (arith, inside (c .before .before 
 bytes-for-requires : tie.Need-bytes-for-requires Inv-loop μ-loop
 bytes-for-requires c κs = omega (arith, inside (c .before .before .before .before .before .before .before .before .before .before))
 
-add-start : tie.Need-add-start Inv-loop μ-loop
-add-start c = omega (arith, inside (c .before .before .before .before .before .before .before .before .before .before .before), c .bytes-for .ensures)
+add-next : tie.Need-add-next Inv-loop μ-loop
+add-next c = omega (arith, inside (c .before .before .before .before .before .before .before .before .before .before .before), c .bytes-for .ensures)
 
 add-i : tie.Need-add-i Inv-loop μ-loop
 add-i c = search needs
@@ -127,10 +127,10 @@ loop-again c =
     let a = s .args in
     let l = at .loop in
     rw (c .bytes-for .ensures)
-    (entering-more (setOf (now (a .patterns)) (now (a .fixed)) (now (a .counts))) (now (a .rows)) (now (a .halves)) (s .pre .0) (l .i) (l .start) (l .rows) (l .halves)
+    (entering-more (setOf (now (a .patterns)) (now (a .fixed)) (now (a .counts))) (now (a .rows)) (now (a .halves)) (s .pre .0) (l .i) (l .start .0) (l .rows) (l .halves)
     (l .inv) (first .before .before .before .loop-test .taken) (first .word-near-end .result) _ (f .front .result) _ (s .pre .1 .0) (omega (arith, f .front .ok))
-    (first .word-near-end .ensures ∙ ap (λ (t : List ℕ). bitsAt t 0 64) (part-to-end (now (a .patterns)) (l .start)))
-    (ap (λ (z : ℕ). bitAnd z (f .front .result)) (f .before .word-near-end2 .ensures ∙ ap (λ (t : List ℕ). bitsAt t 0 64) (part-to-end (now (a .fixed)) (l .start))))
+    (first .word-near-end .ensures ∙ ap (λ (t : List ℕ). bitsAt t 0 64) (part-to-end (now (a .patterns)) (l .start .0)))
+    (ap (λ (z : ℕ). bitAnd z (f .front .result)) (f .before .word-near-end2 .ensures ∙ ap (λ (t : List ℕ). bitsAt t 0 64) (part-to-end (now (a .fixed)) (l .start .0))))
     (f .front .ensures) (e .enter .ensures))
 
 same-length : tie.Need-same-length Inv-loop μ-loop
@@ -174,7 +174,7 @@ enter-all-spec =
     mul-rows-3
     slice-write-rows-3
     bytes-for-requires
-    add-start
+    add-next
     add-i
     loop-less
     loop-again

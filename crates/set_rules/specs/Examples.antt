@@ -9,9 +9,9 @@ use Rattle.rules.specs.declared.Method.the-variants.{Plain}
 use Rattle.rules.specs.Occurrence.{places, matches}
 use Rattle.rules.specs.Machine.{done, spent, full, run}
 use Rattle.search.specs.Verdict.{refused, accepted}
-use Rattle.set.specs.PatternSet.{PatternSet, startOf, patternAt, setPlaces}
-use Rattle.set.specs.Hits.{Hit, hitAt, hitsAt, allHits}
-use Rattle.set.specs.Verdict.{Request, machine, verdict, listAfter}
+use Rattle.set_rules.specs.PatternSet.{PatternSet, startOf, patternAt, setPlaces}
+use Rattle.set_rules.specs.Hits.{Hit, hitAt, hitsAt, allHits}
+use Rattle.set_rules.specs.Verdict.{Request, machine, verdict, listAfter}
 
 -- 14 bits, 10110111010101; the two bits past them in the last byte are 10
 abbrev pub T : Packed
@@ -96,7 +96,7 @@ pub record Examples : Type 0 where
   pub full-later : verdict (ask T three 0 20 8)
       ≡ accepted (record { steps = 3; written = hitAt 0 0 ∷ hitAt 0 1 ∷ hitAt 0 2 ∷ []; mark = 3; ending = full 3 })
   pub cells-stay : listAfter (machine (ask T three 0 20 8)) (replicate 8 9) ≡ 0 ∷ 0 ∷ 0 ∷ 1 ∷ 0 ∷ 2 ∷ 9 ∷ 9 ∷ []
-  -- no cell at all: it stops at the first hit, and where there is none the places go by
+  -- no cell at all: it stops at the first hit, and places without one are passed
   pub no-cell : verdict (ask T three 1 20 0) ≡ accepted (record { steps = 2; written = []; mark = 3; ending = full 3 })
   -- "a pair takes two cells of the list, place first": the odd cell is no room for half a pair, and it stays
   pub odd-cell : verdict (ask T three 3 20 5)

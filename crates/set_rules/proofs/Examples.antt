@@ -9,11 +9,11 @@ use Rattle.rules.specs.Plain.{fromBits, inRow, fixedInRow, rowBit, maskBit, row
 use Rattle.rules.specs.Step.{finds, ahead, next}
 use Rattle.rules.specs.Machine.{stopped, cut, after, run}
 use Rattle.search.specs.Verdict.{judge}
-use Rattle.set.specs.PatternSet.{startOf, largest, setPlaces}
-use Rattle.set.specs.Hits.{standing, hitsAt, hitsOf, allHits, cellsOf}
-use Rattle.set.specs.SetMachine.{halted, noRoom, onward, setRun}
-use Rattle.set.specs.Verdict.{rowsFrom, rows, machine, verdict}
-use Rattle.set.specs.Examples.{Examples}
+use Rattle.set_rules.specs.PatternSet.{startOf, largest, setPlaces}
+use Rattle.set_rules.specs.Hits.{standing, hitsAt, hitsOf, allHits, cellsOf}
+use Rattle.set_rules.specs.SetMachine.{halted, noRoom, onward, setRun}
+use Rattle.set_rules.specs.Verdict.{rowsFrom, rows, machine, verdict}
+use Rattle.set_rules.specs.Examples.{Examples}
 
 pub examples : Examples
 unfolding bitAt every among isFixed agrees matches occurs fromBits inRow fixedInRow rowBit maskBit rowByte rowMask rowFits plainFinds finds ahead next stopped cut after run judge startOf largest setPlaces standing hitsAt hitsOf allHits cellsOf halted noRoom onward setRun rowsFrom rows machine verdict

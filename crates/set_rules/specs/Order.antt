@@ -7,9 +7,9 @@ use mathlib.Core.List.{List·Memᴰ}
 use lib.ListN.{length}
 use Rattle.bits.specs.Packed.{Packed}
 use Rattle.rules.specs.Wild.{Alike}
-use Rattle.set.specs.PatternSet.{PatternSet, patternAt, setPlaces}
-use Rattle.set.specs.Hits.{hitAt, IsHit, hitsAt, allHits}
-use Rattle.set.specs.SetMachine.{setRun}
+use Rattle.set_rules.specs.PatternSet.{PatternSet, patternAt, setPlaces}
+use Rattle.set_rules.specs.Hits.{hitAt, IsHit, hitsAt, allHits}
+use Rattle.set_rules.specs.SetMachine.{setRun}
 
 -- The set vs has the patterns of ws in another order: its pattern i is alike to pattern π i of ws, and ρ is the way back. Two
 -- patterns that are alike may still have other bytes at wild bits and past their last bit.
@@ -23,7 +23,8 @@ pub record Permuted (ws vs : PatternSet) (π ρ : ℕ → ℕ) : Type 0 where
 
 -- E is the same; a place with the number i is a hit of the one just if it is one of the other with the number π i; so it is with
 -- all hits from a place on and before another; and of each place there are as many. So from the same mark with the same budget and
--- room the machine makes as many steps, leaves the same mark, stops alike and writes the same pairs.
+-- room the machine makes as many steps, leaves the same mark and stops alike; and from a mark that is at most E it writes the same
+-- pairs with the numbers permuted.
 pub record SameHits (t : Packed) (ws vs : PatternSet) (π : ℕ → ℕ) : Type 0 where
   pub places-are : setPlaces t vs ≡ setPlaces t ws
   pub hits-are : (p i : ℕ) → i < length (vs .counts) → IsHit t vs (hitAt p i) ↔ IsHit t ws (hitAt p (π i))

@@ -13,8 +13,8 @@ use Rattle.rules.specs.Ranges.{keep, among}
 use Rattle.rules.specs.Occurrence.{places, Occurs, occurs}
 use Rattle.rules.proofs.Ranges.{Kept, among-mem, mem-among, among-rising, among-length, eq-or-below}
 use Rattle.rules.proofs.Occurrence.{occurs-iff}
-use Rattle.set.specs.PatternSet.{PatternSet, patternAt, largest, setPlaces}
-use Rattle.set.specs.Hits.{Hit, hitAt, IsHit, standing, hitsAt, hitsOf, allHits, Before, InOrder, cellsOf, pairsOf}
+use Rattle.set_rules.specs.PatternSet.{PatternSet, patternAt, largest, setPlaces}
+use Rattle.set_rules.specs.Hits.{Hit, hitAt, IsHit, standing, hitsAt, hitsOf, allHits, Before, InOrder, cellsOf, pairsOf}
 
 -- ---- the largest of several values
 

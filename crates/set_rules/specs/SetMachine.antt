@@ -8,8 +8,8 @@ use lib.Dec.{leb, ltb}
 use lib.ListN.{length}
 use Rattle.bits.specs.Packed.{Packed}
 use Rattle.rules.specs.Machine.{Ending, done, spent, full, stopped, cutSteps}
-use Rattle.set.specs.PatternSet.{PatternSet, setPlaces}
-use Rattle.set.specs.Hits.{Hit, hitsAt, allHits}
+use Rattle.set_rules.specs.PatternSet.{PatternSet, setPlaces}
+use Rattle.set_rules.specs.Hits.{Hit, hitsAt, allHits}
 
 -- what a call comes to: as `Run`, with the hits written as pairs
 pub record SetRun : Type 0 where

@@ -17,12 +17,12 @@ use Rattle.rules.specs.Occurrence.{places, Occurs, occurs}
 use Rattle.rules.proofs.Ranges.{among-mem, mem-among}
 use Rattle.rules.proofs.Occurrence.{occurs-iff}
 use Rattle.rules.proofs.Wild.{agrees-alike}
-use Rattle.set.specs.PatternSet.{PatternSet, patternAt, setPlaces}
-use Rattle.set.specs.Hits.{hitAt, IsHit, standing, hitsAt, allHits}
-use Rattle.set.specs.SetMachine.{SetRun, halted, onward, setRun}
-use Rattle.set.specs.Order.{Permuted, SameHits}
-use Rattle.set.proofs.Hits.{places-below, places-least, length-at, all-exactly}
-use Rattle.set.proofs.SetMachine.{run-spent, run-ended, run-step, run-full, left}
+use Rattle.set_rules.specs.PatternSet.{PatternSet, patternAt, setPlaces}
+use Rattle.set_rules.specs.Hits.{hitAt, IsHit, standing, hitsAt, allHits}
+use Rattle.set_rules.specs.SetMachine.{SetRun, halted, onward, setRun}
+use Rattle.set_rules.specs.Order.{Permuted, SameHits}
+use Rattle.set_rules.proofs.Hits.{places-below, places-least, length-at, all-exactly}
+use Rattle.set_rules.proofs.SetMachine.{run-spent, run-ended, run-step, run-full, left}
 
 -- ---- patterns that are alike occur at the same places
 

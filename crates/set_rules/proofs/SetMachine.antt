@@ -16,10 +16,10 @@ use Rattle.bits.specs.Packed.{Packed}
 use Rattle.rules.specs.Machine.{Ending, done, spent, full, stopped}
 use Rattle.rules.proofs.Ranges.{eq-or-below}
 use Rattle.rules.proofs.Machine.{done-not-spent, done-not-full, spent-not-full}
-use Rattle.set.specs.PatternSet.{PatternSet, setPlaces}
-use Rattle.set.specs.Hits.{Hit, hitsAt, allHits}
-use Rattle.set.specs.SetMachine.{SetRun, halted, noRoom, onward, setRun, SetLeft}
-use Rattle.set.proofs.Hits.{all-append, all-none, all-one}
+use Rattle.set_rules.specs.PatternSet.{PatternSet, setPlaces}
+use Rattle.set_rules.specs.Hits.{Hit, hitsAt, allHits}
+use Rattle.set_rules.specs.SetMachine.{SetRun, halted, noRoom, onward, setRun, SetLeft}
+use Rattle.set_rules.proofs.Hits.{all-append, all-none, all-one}
 
 module _ (t : Packed) (ws : PatternSet) (s room : ℕ) where
   -- the loop, turn by turn

@@ -7,7 +7,7 @@ use lib.ListN.{length}
 use Rattle.bits.specs.Packed.{Packed}
 use Rattle.rules.specs.Ranges.{among}
 use Rattle.rules.specs.Occurrence.{Occurs, occurs}
-use Rattle.set.specs.PatternSet.{PatternSet, patternAt}
+use Rattle.set_rules.specs.PatternSet.{PatternSet, patternAt}
 
 -- "Hits are pairs of place and word number (from 0)"
 pub record Hit : Type 0 where

@@ -15,10 +15,10 @@ use Rattle.rules.specs.Occurrence.{places, matches, occurs}
 use Rattle.rules.proofs.Ranges.{every-same, among-same}
 use Rattle.rules.proofs.Padding.{textBits}
 use Rattle.search.proofs.Padding.{judge-same, SameText}
-use Rattle.set.specs.PatternSet.{PatternSet, patternAt, setPlaces}
-use Rattle.set.specs.Hits.{hitAt, standing, hitsAt}
-use Rattle.set.specs.SetMachine.{SetRun, halted, noRoom, onward, setRun}
-use Rattle.set.specs.Verdict.{Request, rows, roomIn, machine, verdict}
+use Rattle.set_rules.specs.PatternSet.{PatternSet, patternAt, setPlaces}
+use Rattle.set_rules.specs.Hits.{hitAt, standing, hitsAt}
+use Rattle.set_rules.specs.SetMachine.{SetRun, halted, noRoom, onward, setRun}
+use Rattle.set_rules.specs.Verdict.{Request, rows, roomIn, machine, verdict}
 
 -- the request with another text
 abbrev pub withText : Request → Packed → Request
