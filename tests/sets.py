@@ -179,7 +179,7 @@ def drawn_word(rng, text, words):
     kind = rng.randrange(6)
     if kind == 0 and words:
         word = rng.choice(words)
-        word = rng.choice([word, word[: rng.randrange(len(word)) + 1], word + rng.choice("01?")])
+        word = rng.choice([word, word[: rng.randrange(len(word)) + 1], (word + rng.choice("01?"))[:2048]])
     elif kind < 5 and text:
         at = rng.randrange(len(text))
         word = text[at : at + rng.choice([1, 2, 3, 5, 8, 9, 20, 31, 32, 33, 40, 64, 65, 90])]
