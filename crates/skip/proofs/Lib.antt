@@ -1,8 +1,4 @@
--- Laws of the skip method's chains, words and steps.
-pub mod SkipBelow
-pub mod SkipShows
-pub mod SkipChain
-pub mod SkipFilling
-pub mod SkipWords
+-- Laws of the skip method's places and steps.
+pub mod SkipPlaces
 pub mod SkipSizes
 pub mod SkipStep

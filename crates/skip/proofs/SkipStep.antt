@@ -20,7 +20,7 @@ use Rattle.rules.proofs.Occurrence.{occurrences-append, occurrences-one}
 use Rattle.matcher.proofs.Advancing.{advanced-step}
 use Rattle.matcher.proofs.Writing.{writing-more, writing-length, stepped-whole, stepped-full}
 use Rattle.rules.proofs.Skip.{reaches-byte, shown-occurs}
-use Rattle.skip.proofs.SkipChain.{chained-span}
+use Rattle.skip.proofs.SkipPlaces.{chained-span}
 
 module _ (t : Packed) (w : Pattern) where
   -- the occurrences from s to e, from an occurrence a among them on

@@ -18,7 +18,7 @@ use Rattle.rules.specs.Occurrence.{places}
 use Rattle.matcher.specs.Progress.{textIn, patternIn, Stepped, Advanced}
 use Rattle.matcher.proofs.Writing.{writing-length}
 use Rattle.matcher.proofs.Advancing.{counted, advanced-none, advanced-step}
-use Rattle.skip.proofs.SkipChain.{byte-from, next-byte, next-fits}
+use Rattle.skip.proofs.SkipPlaces.{byte-from, next-byte, next-fits}
 use Rattle.skip.proofs.SkipSizes.{Sizes, sizes, byte-asked, last-small, end-fits, long-enough}
 use Rattle.skip.proofs.SkipStep.{below-end, mark-from, mark-below, turn-whole, top-odd}
 use Rattle.skip.proofs.by_chains.Statement.{statement}

@@ -15,8 +15,9 @@ use Rattle.rules.specs.Skip.{lastByte}
 use Rattle.matcher.specs.Tables.{lastBelow, inChain, chained}
 use Rattle.matcher.specs.Progress.{textIn, patternIn}
 use Rattle.matcher.proofs.Writing.{writing-none}
-use Rattle.skip.proofs.SkipChain.{chained-fits, mark-byte, byte-is, walk-start}
-use Rattle.skip.proofs.SkipShows.{shown-chain}
+use Rattle.skip_tables.proofs.SkipChain.{chained-fits}
+use Rattle.skip_tables.proofs.SkipShows.{shown-chain}
+use Rattle.skip.proofs.SkipPlaces.{mark-byte, byte-is, walk-start}
 use Rattle.skip.proofs.SkipSizes.{ByteSizes, byte-sizes, long-enough}
 use Rattle.skip.proofs.SkipStep.{skip-all}
 use Rattle.skip.proofs.chain.Statement.{statement}

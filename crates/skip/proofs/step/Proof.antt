@@ -14,13 +14,13 @@ use lib.ListN.{length, getD}
 use Rattle.bits.specs.Packed.{Packed}
 use Rattle.rules.specs.Pattern.{Pattern}
 use Rattle.rules.specs.Occurrence.{occurs, occurrences}
-use Rattle.skip.specs.SkipChains.{Walking}
+use Rattle.skip_tables.specs.SkipChains.{Walking}
 use Rattle.matcher.specs.Progress.{textIn, patternIn, Writing}
 use Rattle.rules.proofs.Occurrence.{places-some}
 use Rattle.matcher.proofs.Compared.{compared-place}
 use Rattle.matcher.proofs.Writing.{writing-none, writing-length}
 use Rattle.rules.proofs.Skip.{reaches-byte, contains-byte}
-use Rattle.skip.proofs.SkipChain.{byte-is, walk-start, walk-by, walk-found, walk-end}
+use Rattle.skip.proofs.SkipPlaces.{byte-is, walk-start, walk-by, walk-found, walk-end}
 use Rattle.skip.proofs.SkipSizes.{Sizes, sizes, byte-asked, end-fits}
 use Rattle.skip.proofs.SkipStep.{span-fits, span-near, below-top, place-fits, place-small, link-inside, link-outside, written-more, skip-full, skip-whole}
 use Rattle.skip.proofs.step.Statement.{statement}

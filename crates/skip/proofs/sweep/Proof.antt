@@ -19,16 +19,17 @@ use Rattle.rules.specs.Pattern.{Pattern}
 use Rattle.rules.specs.Occurrence.{occurs, occurrences}
 use Rattle.rules.specs.Skip.{lastByte}
 use Rattle.matcher.specs.Tables.{showsByte, chained}
-use Rattle.skip.specs.SkipChains.{lastShown, Flagging}
+use Rattle.skip_tables.specs.SkipChains.{lastShown, Flagging}
 use Rattle.matcher.specs.Progress.{textIn, patternIn, Writing}
 use Rattle.rules.proofs.Occurrence.{occurrences-none}
 use Rattle.matcher.proofs.Compared.{compared-place}
 use Rattle.matcher.proofs.Writing.{writing-none, writing-length}
-use Rattle.skip.proofs.SkipBelow.{below-is}
-use Rattle.skip.proofs.SkipChain.{chained-fits, chained-near, mark-byte, byteOf, byte-is, walk-by, walk-found, sweep-gap}
+use Rattle.skip_tables.proofs.SkipBelow.{below-is}
+use Rattle.skip_tables.proofs.SkipChain.{chained-fits}
+use Rattle.skip_tables.proofs.SkipWords.{flags-cut, low-fits, lowest-is, flagging-rest}
+use Rattle.skip.proofs.SkipPlaces.{chained-near, mark-byte, byteOf, byte-is, walk-by, walk-found, sweep-gap, Sweeping}
 use Rattle.skip.proofs.SkipSizes.{ByteSizes, byte-sizes, long-enough}
 use Rattle.skip.proofs.SkipStep.{below-top, place-fits, place-below, written-more, skip-full, skip-all}
-use Rattle.skip.proofs.SkipWords.{Sweeping, flags-cut, low-fits, lowest-is, flagging-rest}
 use Rattle.skip.proofs.sweep.Statement.{statement}
 use Rattle.skip.proofs.sweep.Tie as tie
 

@@ -15,13 +15,14 @@ use Rattle.rules.specs.Pattern.{Pattern}
 use Rattle.rules.specs.Occurrence.{occurs, occurrences}
 use Rattle.rules.specs.Skip.{lastByte}
 use Rattle.matcher.specs.Tables.{lastBelow, inChain, chained}
-use Rattle.skip.specs.SkipChains.{lastShown}
+use Rattle.skip_tables.specs.SkipChains.{lastShown}
 use Rattle.matcher.specs.Progress.{textIn, patternIn, Writing}
 use Rattle.matcher.proofs.Compared.{compared-place}
 use Rattle.matcher.proofs.Writing.{writing-none, writing-length}
-use Rattle.skip.proofs.SkipBelow.{below-is}
-use Rattle.skip.proofs.SkipShows.{shown-chain}
-use Rattle.skip.proofs.SkipChain.{chained-fits, mark-byte, byteOf, byte-is, Headed, headed-within, headed-passes, headed-more, link-less, chain-link, walk-start, walk-by, walk-found}
+use Rattle.skip_tables.proofs.SkipBelow.{below-is}
+use Rattle.skip_tables.proofs.SkipShows.{shown-chain}
+use Rattle.skip_tables.proofs.SkipChain.{chained-fits, Headed, headed-within, headed-passes, headed-more, link-less, chain-link}
+use Rattle.skip.proofs.SkipPlaces.{mark-byte, byteOf, byte-is, walk-start, walk-by, walk-found}
 use Rattle.skip.proofs.SkipSizes.{ByteSizes, byte-sizes, long-enough}
 use Rattle.skip.proofs.SkipStep.{below-top, place-fits, place-below, written-more, skip-full, skip-all}
 use Rattle.skip.proofs.walk.Statement.{statement}
