@@ -11,7 +11,7 @@ use native.Mathlib.Omega.{arith}
 use lib.Bits.{bitAnd, bitXor}
 use lib.Dec.{eqb}
 use lib.ListN.{length, getD, set, List·getD-eq-default}
-use borrow.Author.Tests.{ltb-false, ne-eqb}
+use borrow.Author.Tests.{ne-eqb}
 use Rattle.bits.specs.Packed.{Packed, bytesFor, bitsAt}
 use Rattle.bits.proofs.Run.{bits-lt}
 use Rattle.rules.specs.declared.Method.the-variants.{Hash}
@@ -25,10 +25,7 @@ use Rattle.rules.proofs.Ranges.{not-true-false}
 use Rattle.rules.proofs.Occurrence.{matches-at, occurs-inside}
 use Rattle.rules.proofs.Hash.{LeastMeeting, again-least, occurs-meets, hash-compares}
 use Rattle.matcher.proofs.Writing.{alone-cut, alone-hit, alone-miss}
-use Rattle.hash.proofs.HashValues.{shown-whole}
-
-pub long-enough : (w : Pattern) → GoodPattern Hash w → 8 ≤ w .count
-long-enough w g = ltb-false (w .count) 8 (g .fit)
+use Rattle.hash_tables.proofs.HashValues.{long-enough, shown-whole}
 
 -- eight bits of the pattern lie inside its bytes, and those of the second run inside its own
 pub eight-of-run : (run : List ℕ) (w : Pattern) → GoodPattern Hash w → (p : ℕ) → p + 8 ≤ w .count → bytesFor (w .count) ≤ length run

@@ -1,6 +1,2 @@
--- The laws of the hash method's tables and steps.
-pub mod HashValues
-pub mod HashTables
-pub mod HashWords
-pub mod HashRows
+-- The laws of the hash method's steps.
 pub mod HashSteps

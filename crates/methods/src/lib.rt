@@ -20,7 +20,7 @@ pub fn prepare(method: Method, pattern: &[u8], fixed: &[u8], m: u32, cells: &mut
 {
     match method {
         Method::Plain => plain::prepare(pattern, fixed, m, cells),
-        Method::Hash => hash::prepare(pattern, fixed, m, cells),
+        Method::Hash => hash_tables::prepare(pattern, fixed, m, cells),
         Method::Skip => skip_tables::prepare(pattern, fixed, m, cells),
         Method::Wide => wide::prepare(pattern, fixed, m, cells),
         Method::Tail => tail::prepare(pattern, fixed, m, cells),

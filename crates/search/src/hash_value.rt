@@ -1,6 +1,6 @@
 // H(B) by itself, on any input: the least move at which the pattern shows the value B.
 use crate::Refusal;
-use hash::value;
+use hash_tables::value;
 ghost use mathlib.Core.Path.{_≡_};
 ghost use Rattle.search.specs.Verdict.{hashVerdict};
 ghost use Rattle.search.specs.HashAnswers.{hashAnswer};

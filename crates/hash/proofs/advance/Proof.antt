@@ -17,7 +17,8 @@ use Rattle.matcher.specs.Progress.{textIn, patternIn, Stepped, Advanced}
 use Rattle.matcher.proofs.Compared.{compared}
 use Rattle.matcher.proofs.Writing.{writing-length}
 use Rattle.matcher.proofs.Advancing.{counted, advanced-none, advanced-step}
-use Rattle.hash.proofs.HashSteps.{long-enough, CellAt, cell-at, eight-of-run, eight-inside, differs, stepped-hit, stepped-miss, stepped-cut}
+use Rattle.hash_tables.proofs.HashValues.{long-enough}
+use Rattle.hash.proofs.HashSteps.{CellAt, cell-at, eight-of-run, eight-inside, differs, stepped-hit, stepped-miss, stepped-cut}
 use Rattle.hash.proofs.advance.Statement.{statement}
 use Rattle.hash.proofs.advance.Tie as tie
 
