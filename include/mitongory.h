@@ -81,21 +81,21 @@ extern "C" {
 
 /* The version of this header. */
 #define MITONGORY_VERSION_MAJOR 0
-#define MITONGORY_VERSION_MINOR 7
-#define MITONGORY_VERSION_PATCH 1
+#define MITONGORY_VERSION_MINOR 8
+#define MITONGORY_VERSION_PATCH 0
 #define MITONGORY_VERSION_NUMBER \
     (MITONGORY_VERSION_MAJOR * 10000 + MITONGORY_VERSION_MINOR * 100 + MITONGORY_VERSION_PATCH)
-#define MITONGORY_VERSION "0.7.1"
+#define MITONGORY_VERSION "0.8.0"
 
 /*
  * The version of the library, as a number. The name holds the version of the interface, so that a program that was
  * compiled for one interface links with no other.
  */
-uint32_t mitongory_version_0_7(void);
+uint32_t mitongory_version_0_8(void);
 
 static inline uint32_t mitongory_version(void)
 {
-    return mitongory_version_0_7();
+    return mitongory_version_0_8();
 }
 
 #ifdef __GNUC__
@@ -103,7 +103,7 @@ static inline uint32_t mitongory_version(void)
  * Every program refers to the function, also one that never asks for the version. (A linker that is told to drop unused
  * data, by --gc-sections, drops this reference too.)
  */
-static uint32_t (*const mitongory_version_needed)(void) __attribute__((used)) = mitongory_version_0_7;
+static uint32_t (*const mitongory_version_needed)(void) __attribute__((used)) = mitongory_version_0_8;
 #endif
 
 /*
@@ -116,12 +116,12 @@ static uint32_t (*const mitongory_version_needed)(void) __attribute__((used)) = 
 /* The most patterns of a set. */
 #define MITONGORY_MOST_PATTERNS 64
 
-/*
- * The most sheets of a sitting, and the cells that it needs in `report` for each sheet, and in `answer`. All other calls
- * need one answer cell.
- */
+/* The most sheets of a sitting, and the cells that it needs in `report` for each sheet, and in `answer`. */
 #define MITONGORY_SHEETS 256
 #define MITONGORY_SHEET_CELLS 3
+
+/* The cells that a read of eight bits needs in `answer`. All other calls need one. */
+#define MITONGORY_EIGHT_CELLS 2
 
 /* What a call returns. 1 to 18 are the numbers of the requirements; 100 and 101 exist only in this interface. */
 enum mitongory_result {
@@ -131,7 +131,7 @@ enum mitongory_result {
     MITONGORY_PATTERN_LENGTH = 3,        /* m is 0 or above 2048 */
     MITONGORY_PATTERN_BYTES_MISSING = 4, /* fewer pattern bytes than m bits take; a set's run ends before a pattern does */
     MITONGORY_PATTERN_UNFIT = 5,         /* m below 8 for hash and H, below 15 for skip, above 64 for tail */
-    MITONGORY_BEYOND_END = 6,            /* mark above the number of places; place + 8 above n */
+    MITONGORY_BEYOND_END = 6,            /* mark above the number of places */
     MITONGORY_SCRATCH_TOO_SHORT = 7,     /* fewer cells than the method takes for m, see mitongory_scratch_cells */
     MITONGORY_LIST_NOT_RISING = 8,       /* a list of positions that does not rise strictly, or holds 2^30 or more */
     MITONGORY_TARGET_TOO_SHORT = 9,      /* fewer target bytes than the list's file has; fewer than three report cells a sheet */
@@ -160,7 +160,7 @@ static inline const char *mitongory_result_text(uint32_t result)
     case MITONGORY_PATTERN_UNFIT:
         return "The pattern's length does not fit the method: hash and H need 8 bits or more, skip 15 or more, "
                "tail 64 or fewer.";
-    case MITONGORY_BEYOND_END: return "The mark is above the number of places, or there are fewer than eight bits from the place on.";
+    case MITONGORY_BEYOND_END: return "The mark is above the number of places.";
     case MITONGORY_SCRATCH_TOO_SHORT: return "The scratch has fewer cells than the method takes for the pattern.";
     case MITONGORY_LIST_NOT_RISING: return "A list of positions does not rise strictly, or holds 2^30 or more.";
     case MITONGORY_TARGET_TOO_SHORT:
@@ -309,10 +309,17 @@ uint32_t mitongory_hash_value(const uint8_t *pattern, size_t pattern_len,
                               const uint8_t *fixed, size_t fixed_len, uint64_t m, uint8_t value,
                               uint64_t *answer, size_t answer_len);
 
+/* The answer cells of an accepted read of eight bits. */
+enum mitongory_eight {
+    MITONGORY_BYTE = 0, /* the bits, the first one leftmost, and zeros for those that do not lie before n */
+    MITONGORY_COUNT = 1 /* how many of them lie before n: the least of 8 and n - place, or 0 where place is n or more */
+};
+
 /*
- * The eight bits from bit number `place` on, of the first n bits of `text`. answer[0] is the byte, with that bit leftmost.
+ * The eight bits from bit number `place` on, of the first n bits of `text`: any bit number is accepted. Where the count is
+ * 8, all of them lie inside. Bits from n on never show, whatever the bytes hold there.
  *
- * Returns 0, or the first of 101, 1, 2, 6 that applies.
+ * Returns 0, or the first of 101, 1, 2 that applies.
  */
 uint32_t mitongory_eight_bits(const uint8_t *text, size_t text_len, uint64_t n, uint32_t place,
                               uint64_t *answer, size_t answer_len);

@@ -9,10 +9,10 @@ const ARCHIVE: &str = "libmitongory.a";
 /// Names another folder than the repository's own.
 const DIR_VARIABLE: &str = "MITONGORY_LIB_DIR";
 
-/// The archive exports a function of this name and its version, major and minor: `mitongory_version_0_7`.
+/// The archive exports a function of this name and its version, major and minor: `mitongory_version_0_8`.
 const VERSION_SYMBOL: &str = "mitongory_version_";
 
-/// The call that was added last. An earlier archive of the same version, major and minor, does not have it.
+/// The call that was added last, which an earlier archive does not have.
 const LAST_CALL: &str = "mitongory_search_set";
 
 fn main() {
@@ -64,8 +64,8 @@ pub(crate) fn judge(dir: &Path, target: &str, version: &str) -> Result<(), Strin
     Ok(())
 }
 
-/// The symbols in an archive's bytes that begin with a prefix. Each is taken whole, so that `mitongory_version_0_7` is
-/// not found in `mitongory_version_0_70`, and the name of a section, in which a point comes before it, is none.
+/// The symbols in an archive's bytes that begin with a prefix. Each is taken whole, so that `mitongory_version_0_8` is
+/// not found in `mitongory_version_0_80`, and the name of a section, in which a point comes before it, is none.
 fn symbols(archive: &[u8], prefix: &str) -> BTreeSet<String> {
     let begins = |at: &usize| archive[*at..].starts_with(prefix.as_bytes()) && (*at == 0 || archive[*at - 1] != b'.');
     let symbol = |at: usize| {

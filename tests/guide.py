@@ -407,7 +407,7 @@ def refusals():
     for path, name in [
         ("crates/search/specs/Verdict.antt", "numberOfRefusal"),
         ("crates/set/specs/Promise.antt", "numberOfRefusal"),
-        ("crates/bits/specs/Eight.antt", "numberOf"),
+        ("crates/eight/specs/Eight.antt", "numberOf"),
         ("crates/positions/specs/Promise.antt", "(?:write|read)Refusal"),
         ("crates/marking/specs/Promise.antt", "markRefusal"),
     ]:

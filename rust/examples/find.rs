@@ -1,4 +1,5 @@
-//! Finds a pattern in a text with each method, and shows where it stands; then the same with a field of it wild.
+//! Finds a pattern in a text with each method, and shows where it stands; then the same with a field of it wild, and
+//! the bits around the end of each occurrence.
 use mitongory::{search, Bits, Mark, Method, Occurrences, Scratch, WildBits};
 use std::error::Error;
 
@@ -20,8 +21,10 @@ fn main() -> Result<(), Box<dyn Error>> {
     }
 
     let wild: WildBits = "0100??0100".parse()?;
+    let bits = wild.pattern()?.bit_count();
     for place in Occurrences::new(text, wild.pattern()?, Method::Hash)? {
         println!("{long}\n{:place$}{wild}", "", place = place as usize);
+        println!("around its end: {}", text.around(place + bits as u32));
     }
     Ok(())
 }

@@ -12,13 +12,18 @@ pub const UNKNOWN_METHOD: u32 = 100;
 /// The answer has fewer cells than the call fills.
 pub const ANSWER_CELLS_MISSING: u32 = 101;
 
+/// The answer cells of a read of eight bits, and what they hold: the byte, and how many of its bits lie before n.
+pub const EIGHT_CELLS: usize = 2;
+pub const BYTE: usize = 0;
+pub const COUNT: usize = 1;
+
 // include/mitongory.h says what the library asks of a pointer and its count of elements. A Rust slice gives more than
 // that: its pointer is aligned and never NULL, also for no elements; its elements are initialised; and nothing else has
 // access to those of a `&mut` slice during the call. Nothing checks these declarations against the library:
 // tests/library/boundary.rs tests them.
 mod raw {
     extern "C" {
-        pub(super) fn mitongory_version_0_7() -> u32;
+        pub(super) fn mitongory_version_0_8() -> u32;
         pub(super) fn mitongory_search(
             text: *const u8,
             text_len: usize,
@@ -113,13 +118,13 @@ mod raw {
 
 // Kept in every program, used or not, so that the linker refuses an archive of another version.
 #[used]
-static VERSION: unsafe extern "C" fn() -> u32 = raw::mitongory_version_0_7;
+static VERSION: unsafe extern "C" fn() -> u32 = raw::mitongory_version_0_8;
 
 /// The archive's version, as major * 10,000 + minor * 100 + patch.
 #[must_use]
 pub fn version() -> u32 {
     // SAFETY: the function takes nothing and returns a number.
-    unsafe { raw::mitongory_version_0_7() }
+    unsafe { raw::mitongory_version_0_8() }
 }
 
 /// A search call. A 1 in the run `fixed` is a bit of the pattern that is compared, a 0 one that is wild. Method 0 is plain,
@@ -221,7 +226,7 @@ pub fn hash_value(pattern: &[u8], fixed: &[u8], m: u64, value: u8, answer: &mut 
     }
 }
 
-/// Eight bits from a bit number on, in the answer's first cell.
+/// Eight bits from a bit number on, and how many of them lie before n, in the answer's first two cells.
 pub fn eight_bits(bytes: &[u8], n: u64, place: u32, answer: &mut [u64]) -> u32 {
     // SAFETY: each pointer and length come from one live slice, and the `&mut` slice overlaps nothing.
     unsafe { raw::mitongory_eight_bits(bytes.as_ptr(), bytes.len(), n, place, answer.as_mut_ptr(), answer.len()) }

@@ -58,6 +58,19 @@
 //! # }
 //! ```
 //!
+//! [`Text::eight_bits`] reads eight bits from any place on and says how many of them are bits of the text, and
+//! [`Text::around`] shows a place with the bits on both sides of it:
+//!
+//! ```
+//! # fn main() -> Result<(), mitongory::Refusal> {
+//! let text = mitongory::Text::new(&[0xcb, 0x2f], 13)?;
+//! let near_end = text.eight_bits(8);
+//! assert_eq!((near_end.byte, near_end.count), (0b0010_1000, 5));
+//! assert_eq!(text.around(8), "1100 1011 | 0010 1···");
+//! # Ok(())
+//! # }
+//! ```
+//!
 //! # Wild bits
 //!
 //! A bit of a pattern is fixed or *wild*. The text has to have the fixed bits; at a wild one it may have either value. So
@@ -209,6 +222,7 @@
 mod bits;
 mod call;
 mod calls;
+mod eight_bits;
 #[doc(hidden)]
 pub mod ffi;
 pub mod marking;
@@ -227,6 +241,7 @@ mod wild_bits;
 
 pub use bits::{Bits, NotABit};
 pub use calls::Progress;
+pub use eight_bits::EightBits;
 pub use method::{Method, UnknownMethod};
 pub use occurrences::Occurrences;
 pub use pattern::Pattern;

@@ -30,7 +30,7 @@ pub enum Refusal {
     PatternBytesMissing = 4,
     /// The pattern is below 8 bits for hash and H, below 15 for skip, or above 64 for tail.
     PatternUnfit = 5,
-    /// The mark is above the number of places; for eight bits, there are fewer from the place on.
+    /// The mark is above the number of places.
     BeyondEnd = 6,
     /// The scratch has fewer cells than the method takes for the pattern. One of
     /// [`Scratch::new`](crate::Scratch::new) never has.
@@ -125,9 +125,7 @@ impl fmt::Display for Refusal {
                 "the pattern's length does not fit the method: hash and H take 8 bits or more, skip 15 or more, \
                  tail 64 or fewer"
             }
-            Refusal::BeyondEnd => {
-                "the mark is above the number of places, or there are fewer than eight bits from the place on"
-            }
+            Refusal::BeyondEnd => "the mark is above the number of places",
             Refusal::ScratchTooShort => "the scratch has fewer cells than the method takes for the pattern",
             Refusal::ListNotRising => "a list of positions does not rise strictly below 2^30",
             Refusal::TargetTooShort => {

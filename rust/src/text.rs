@@ -1,4 +1,5 @@
 //! The text: packed bits to search in.
+use crate::eight_bits::{self, EightBits};
 use crate::packed::{self, shows_its_bits, Packed};
 use crate::refusal::Refusal;
 use crate::{call, ffi};
@@ -44,10 +45,9 @@ impl<'a> Text<'a> {
     ///
     /// [`Refusal::TextTooLong`] above 2^30 bits, [`Refusal::TextBytesMissing`] for fewer bytes than the bits take.
     pub fn new(bytes: &'a [u8], bit_count: u64) -> Result<Text<'a>, Refusal> {
-        // Of the call for eight bits, refusals 1 and 2 speak of the text, and 6 of the place.
-        let said = call::check(ffi::eight_bits(bytes, bit_count, 0, &mut [0]));
-        let bits = Packed::judged(bytes, bit_count, said, Refusal::BeyondEnd)?;
-        Ok(Text { bits })
+        // The call for eight bits takes any place, so that it is refused for the text alone.
+        call::check(ffi::eight_bits(bytes, bit_count, 0, &mut [0; ffi::EIGHT_CELLS]))?;
+        Ok(Text { bits: Packed { bytes, bit_count } })
     }
 
     /// All bits of `bytes`, eight for each.
@@ -63,21 +63,40 @@ impl<'a> Text<'a> {
         Text::new(bytes, packed::bits_in(bytes))
     }
 
-    /// The eight bits from bit `place` on, as a byte with that bit leftmost.
+    /// The eight bits from bit `place` on, as a byte with that bit leftmost, and how many of them are bits of the text.
+    /// Any place will do: where the text ends, the byte has zeros, whatever the lent bytes hold there.
     ///
     /// ```
-    /// use mitongory::{Refusal, Text};
+    /// use mitongory::{EightBits, Text};
     ///
-    /// let text = Text::new(&[0xab, 0xcd], 13).unwrap();
-    /// assert_eq!(text.eight_bits(4), Ok(0xbc));
-    /// assert_eq!(text.eight_bits(6), Err(Refusal::BeyondEnd));
+    /// let text = Text::new(&[0xab, 0xcf], 13).unwrap();
+    /// assert_eq!(text.eight_bits(4), EightBits { byte: 0xbc, count: 8 });
+    /// assert_eq!(text.eight_bits(9), EightBits { byte: 0b1001_0000, count: 4 });
+    /// assert_eq!(text.eight_bits(13), EightBits { byte: 0, count: 0 });
     /// ```
+    #[must_use]
+    pub fn eight_bits(&self, place: u32) -> EightBits {
+        let mut cells = [0; ffi::EIGHT_CELLS];
+        // Only a text can be refused, and this one was not.
+        call::check(ffi::eight_bits(self.bytes(), self.bit_count(), place, &mut cells)).expect("the text was judged");
+        EightBits::of_cells(cells)
+    }
+
+    /// The bits around a place, for people to read: eight before it, a bar, and eight from it on. A dot stands where the
+    /// text has no bit, before its first or after its last one.
     ///
-    /// # Errors
+    /// ```
+    /// use mitongory::Text;
     ///
-    /// [`Refusal::BeyondEnd`] where there are fewer than eight bits from the place on.
-    pub fn eight_bits(&self, place: u32) -> Result<u8, Refusal> {
-        call::answer(|cell| ffi::eight_bits(self.bytes(), self.bit_count(), place, cell))
+    /// let text = Text::new(&[0x64, 0x89, 0xa5, 0x14, 0x9f], 36).unwrap();
+    /// assert_eq!(text.around(11), "0010 0100 | 0100 1101");
+    /// assert_eq!(text.around(32), "0001 0100 | 1001 ····");
+    /// assert_eq!(text.around(3), "···· ·011 | 0010 0100");
+    /// ```
+    #[must_use]
+    pub fn around(&self, place: u32) -> String {
+        let first = place.saturating_sub(8);
+        eight_bits::around(self.eight_bits(first), (place - first) as usize, self.eight_bits(place))
     }
 
     fn characters(self) -> impl Iterator<Item = char> + 'a {

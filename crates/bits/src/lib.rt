@@ -1,11 +1,10 @@
-// Reading bits of a packed run: the two units of position, one bit, eight bits with their refusals, and loads of
-// up to 64 bits for the matchers. The definitions that the contracts cite are in specs/Packed.antt and specs/Eight.antt.
+// Reading bits of a packed run: the two units of position, one bit, and loads of up to 64 bits for the matchers. The
+// definitions that the contracts cite are in specs/Packed.antt.
 ghost use mathlib.Core.Path.{_≡_};
 ghost use Prim.Native.Nat.{_+_, _*_, _/_, _%_, _^_, _≤_, _<_};
 ghost use Rattle.bits.specs.Packed.{bytesFor};
 
 pub mod bit;
-pub mod eight;
 pub mod load;
 
 // A bit number, counted from 0. Document 01's own word for it is "place".

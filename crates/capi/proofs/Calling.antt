@@ -21,7 +21,7 @@ use Rattle.capi.specs.Sitting.{sittingTells, sittingVerdict, SittingMark
 use Rattle.capi.specs.Inner.{outcomeTells}
 use Rattle.capi.proofs.Telling.{few-cells, enough-cells, refusing}
 
--- ---- the calls that tell one number or three
+-- ---- the calls that tell one number, two or three
 
 -- `few` is the verdict where there are fewer answer cells than so many, `own` that of the call below.
 module _ {A : Type 0} {needed : ℕ} (tell : A → Told) (few own : A) (answer : List ℕ) where

@@ -12,6 +12,11 @@ pub one-cell : (l : List ℕ) (a : ℕ) → 1 ≤ length l → set l 0 a ≡ ans
 one-cell [] a h = absurd (omega arith)
 one-cell (x ∷ l) a h = refl
 
+pub two-cells : (l : List ℕ) (a b : ℕ) → 2 ≤ length l → set (set l 0 a) 1 b ≡ answerAfter (gives (a ∷ b ∷ [])) l
+two-cells [] a b h = absurd (omega arith)
+two-cells (w ∷ []) a b h = absurd (omega arith)
+two-cells (w ∷ x ∷ l) a b h = refl
+
 pub three-cells : (l : List ℕ) (a b c : ℕ) → 3 ≤ length l → set (set (set l 0 a) 1 b) 2 c ≡ answerAfter (gives (a ∷ b ∷ c ∷ [])) l
 three-cells [] a b c h = absurd (omega arith)
 three-cells (w ∷ []) a b c h = absurd (omega arith)

@@ -1,15 +1,15 @@
 -- Eight bits from a bit number, by themselves.
 use Prim.Native.Nat.{ℕ}
 use mathlib.Core.List.{List, [], _∷_}
-use Rattle.bits.specs.Eight.{Verdict, byte, number, eightAt}
+use Rattle.eight.specs.Eight.{Verdict, shown, number, eightAt}
 use Rattle.capi.specs.Told.{answerCellsMissing, Told, gives, refuses, unlessCells}
 
--- one answer cell: the byte
+-- two answer cells: the byte, and how many of its bits lie before n
 abbrev pub eightTells : Verdict → Told
 eightTells (number k) = refuses k
-eightTells (byte b) = gives (b ∷ [])
+eightTells (shown byte count) = gives (byte ∷ count ∷ [])
 
--- What `mitongory_eight_bits` tells: 101 first, then refusals 1, 2, 6, or the byte.
+-- What `mitongory_eight_bits` tells: 101 first, then refusals 1 and 2, or the byte and the count.
 unfoldable pub eightTold : List ℕ → ℕ → ℕ → List ℕ → Told
 eightTold bytes n place answer =
-    unlessCells 1 answer (refuses answerCellsMissing) (eightTells (eightAt (record { bytes = bytes; count = n }) place))
+    unlessCells 2 answer (refuses answerCellsMissing) (eightTells (eightAt (record { bytes = bytes; count = n }) place))

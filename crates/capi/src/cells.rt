@@ -1,4 +1,4 @@
-// An accepted call stores its numbers, one, three or four, to the first answer cells, and returns 0.
+// An accepted call stores its numbers, one to four, to the first answer cells, and returns 0.
 ghost use mathlib.Core.List.{[], _∷_};
 ghost use Prim.Native.Nat.{_≤_};
 ghost use lib.ListN.{length};
@@ -9,6 +9,15 @@ pub(crate) fn one(answer: &mut [u64], a: u64) -> u32
     ensures { λ r. ⌜ Tells (gives (a ∷ [])) (now (answer .entry)) r (now (answer .exit)) ⌝ }
 {
     answer[0] = a;
+    0
+}
+
+pub(crate) fn two(answer: &mut [u64], a: u64, b: u64) -> u32
+    requires { ⌜ 2 ≤ length (now answer) ⌝ }
+    ensures { λ r. ⌜ Tells (gives (a ∷ b ∷ [])) (now (answer .entry)) r (now (answer .exit)) ⌝ }
+{
+    answer[0] = a;
+    answer[1] = b;
     0
 }
 

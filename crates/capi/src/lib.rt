@@ -2,7 +2,7 @@
 // (include/mitongory.h). Each call takes any input and returns 0, or the number of a refusal. An accepted call stores what it
 // tells to the front of `answer`; a refused one changes nothing. What each call promises is in specs/.
 mod cells;
-mod eight;
+mod eight_bits;
 mod lists;
 mod pattern_set;
 mod scan;

@@ -3,8 +3,8 @@ ghost use mathlib.Core.Path.{_≡_};
 
 // The version as a number: major × 10,000 + minor × 100 + patch.
 #[no_mangle]
-pub extern "C" fn mitongory_version_0_7() -> u32
-    ensures { λ r. ⌜ r ≡ 701 ⌝ }
+pub extern "C" fn mitongory_version_0_8() -> u32
+    ensures { λ r. ⌜ r ≡ 800 ⌝ }
 {
-    701
+    800
 }

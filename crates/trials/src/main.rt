@@ -21,7 +21,7 @@ use draws::report;
 fn one(kind: usize, i: usize, x: usize) -> bool {
     let mut s = [0u8; packed::BYTES];
     let mut list = [0u32; 4400];
-    if 20 < kind {
+    if (20 < kind) & (kind < 25) {
         return sets::one(kind, x, &mut list);
     }
     if kind == 10 {
@@ -35,6 +35,7 @@ fn one(kind: usize, i: usize, x: usize) -> bool {
         18 => drawn::free_bits(i, x, &mut s, &mut list),
         19 => single::drawn_hash(1, x, &mut s),
         20 => drawn::every_length(1, i, x, &mut s, &mut list),
+        25 => single::every_eight(i, &mut s),
         _ => drawn::one(kind, i, x, &mut s, &mut list),
     }
 }
@@ -55,7 +56,7 @@ fn many(names: &[u8], counts: &[usize], kind: usize) -> usize {
 }
 
 // The kinds: their names, and where each one's name ends and how many cases it has.
-const NAMES: [u8; 800] = *b"\
+const NAMES: [u8; 832] = *b"\
     plain, whole                    \
     hash, whole                     \
     skip, whole                     \
@@ -80,9 +81,10 @@ const NAMES: [u8; 800] = *b"\
     sets, whole                     \
     sets, lists of twelve calls     \
     sets, refusals, neighbours      \
-    sets, one pattern as plain      ";
+    sets, one pattern as plain      \
+    eight bits, each n up to 70     ";
 
-const COUNTS: [usize; 50] = [
+const COUNTS: [usize; 52] = [
     13,
     30000,
     12,
@@ -133,12 +135,14 @@ const COUNTS: [usize; 50] = [
     4000,
     27,
     3000,
+    28,
+    single::EIGHTS,
 ];
 
 fn main() {
     let mut wrong: usize = 0;
     let mut kind: usize = 0;
-    while kind < 25 {
+    while kind < 26 {
         wrong = number::plus(wrong, many(&NAMES, &COUNTS, kind));
         kind += 1;
     }

@@ -8,8 +8,6 @@ use crate::drawn::repeat;
 use crate::naive;
 use crate::wild::second_run;
 use bits::Place;
-use bits::eight;
-use bits::eight::Eight;
 use draws::draw::choose;
 use draws::draw::draw;
 use draws::number::ceiling;
@@ -22,6 +20,7 @@ use draws::packed::BYTES;
 use draws::packed::FIXED;
 use draws::packed::TEXT;
 use draws::packed::TEXT_BIT;
+use eight::Eight;
 use search::hash_value;
 use search::hash_value::HashAnswer;
 use search::scratch_cells;
@@ -30,7 +29,32 @@ use search::scratch_cells::CellsAnswer;
 // Bit counts about the greatest one, once in 50, or small.
 const COUNTS: [usize; 4] = [1073741820, 9, 0, 101];
 
-// Eight bits of n in so many bytes, from p on: they lie inside where a pattern of eight bits may have the mark p + 1.
+// Bit p of the n bits of the text, or 0 from n on.
+fn before_end(s: &[u8], n: usize, p: usize) -> u8 {
+    if p < n {
+        packed::bit(s, plus(TEXT_BIT, p))
+    } else {
+        0
+    }
+}
+
+// Whether the buffer's first byte and a count are what document 02 says of the eight bits from p on, of n in the text: bit j
+// is that of the text where p + j is below n, else 0, and the count is how many are below n.
+fn eight_are(s: &[u8], n: usize, p: usize, count: u32) -> bool {
+    let mut inside: usize = 0;
+    let mut j: usize = 0;
+    while j < 8 {
+        let at = plus(p, j);
+        if packed::bit(s, j) != before_end(s, n, at) {
+            return false;
+        }
+        inside = plus(inside, (at < n) as usize);
+        j += 1;
+    }
+    small(inside) == count
+}
+
+// Eight bits of n in so many bytes, from p on. Of a search's rows only 1 and 2 can hold, since mark and pattern are good.
 fn eight_from(n: usize, a: usize, p: usize, s: &mut [u8; BYTES]) -> bool {
     let why = naive::refusal(Call {
         n: n,
@@ -39,16 +63,16 @@ fn eight_from(n: usize, a: usize, p: usize, s: &mut [u8; BYTES]) -> bool {
         pattern: 1,
         fixed: 1,
         way: 0,
-        mark: plus(p, 1),
+        mark: 0,
         budget: 0,
         room: 0,
         scratch: SCRATCH,
     });
     let got = eight::eight_bits(packed::part(s, TEXT, a), n as u64, Place(small(p)));
     match got {
-        Eight::Bits(b) => {
-            packed::put8(s, 0, b);
-            return (why == 0) & packed::agree(s, 0, plus(TEXT_BIT, p), 8);
+        Eight::Accepted(e) => {
+            packed::put8(s, 0, e.byte);
+            return (why == 0) & eight_are(s, n, p, e.count);
         }
         Eight::Refused(r) => {
             return r.number() == small(why);
@@ -70,6 +94,18 @@ pub(crate) fn eight_bits(x: usize, s: &mut [u8; BYTES]) -> bool {
     let short = least_of(n, 100);
     let a = minus(plus(ceiling(short), draw(x, 5, 4)), 1);
     eight_from(n, a, drawn_place(x, short), s)
+}
+
+// Every n from 0 to 70, each with the places from 0 to 95 and the last 16 of 32 bits.
+pub(crate) const EIGHTS: usize = 7952;
+
+// The bits from n on are ones, and up to two bytes more are lent than n bits take.
+pub(crate) fn every_eight(i: usize, s: &mut [u8; BYTES]) -> bool {
+    let n = i / 112;
+    let k = i % 112;
+    let p = if k < 96 { k } else { 4294967184 + k };
+    packed::put_bits(s, plus(TEXT_BIT, n), 100, 1);
+    eight_from(n, plus(ceiling(n), i % 3), p, s)
 }
 
 // The cells of scratch that are told for the method and m, which are refused as a call with all its bytes is.

@@ -20,12 +20,12 @@ fn version_of_the_crate() {
     let minor = part(env!("CARGO_PKG_VERSION_MINOR"));
     let patch = part(env!("CARGO_PKG_VERSION_PATCH"));
     assert_eq!(ffi::version(), major * 10_000 + minor * 100 + patch);
-    assert_eq!(ffi::version(), 701);
+    assert_eq!(ffi::version(), 800);
     let declared = include_str!("../../src/ffi.rs");
     assert!(declared.contains(&format!("mitongory_version_{major}_{minor}()")));
 }
 
-/// What the build script says of an archive of these bytes, for the crate of version 0.7, with the folder's name left
+/// What the build script says of an archive of these bytes, for the crate of version 0.8, with the folder's name left
 /// out.
 fn judged(archive: Option<&[u8]>) -> Result<(), String> {
     let dir = env::temp_dir().join(format!("mitongory-{}", process::id()));
@@ -33,7 +33,7 @@ fn judged(archive: Option<&[u8]>) -> Result<(), String> {
     if let Some(bytes) = archive {
         fs::write(dir.join("libmitongory.a"), bytes).unwrap();
     }
-    let said = script::judge(&dir, "x86_64-linux", "0_7");
+    let said = script::judge(&dir, "x86_64-linux", "0_8");
     fs::remove_dir_all(&dir).unwrap();
     said.map_err(|why| why.replace(dir.to_str().unwrap(), "DIR"))
 }
@@ -42,27 +42,27 @@ fn judged(archive: Option<&[u8]>) -> Result<(), String> {
 fn archives_that_the_build_refuses() {
     let symbols = |names: &[&str]| [b"!<arch>\n\0", names.join("\0").as_bytes(), b"\0.text\0"].concat();
     let exports = |found: &str| {
-        let needs = "the crate has version 0.7 and needs mitongory_version_0_7";
+        let needs = "the crate has version 0.8 and needs mitongory_version_0_8";
         Err(format!("{needs}, but DIR/libmitongory.a exports {found}: run `make lib` again"))
     };
-    assert_eq!(judged(Some(&symbols(&["mitongory_search_set", "mitongory_version_0_7"]))), Ok(()));
+    assert_eq!(judged(Some(&symbols(&["mitongory_search_set", "mitongory_version_0_8"]))), Ok(()));
     let old = "DIR/libmitongory.a is too old and has no mitongory_search_set: run `make lib` again";
     for call in ["mitongory_search", "mitongory_search_sets", ".text.mitongory_search_set"] {
-        assert_eq!(judged(Some(&symbols(&[call, "mitongory_version_0_7"]))), Err(String::from(old)));
+        assert_eq!(judged(Some(&symbols(&[call, "mitongory_version_0_8"]))), Err(String::from(old)));
     }
     assert_eq!(judged(Some(&symbols(&["mitongory_search"]))), exports("no version"));
-    assert_eq!(judged(Some(&symbols(&["mitongory_version_0_70"]))), exports("mitongory_version_0_70"));
+    assert_eq!(judged(Some(&symbols(&["mitongory_version_0_80"]))), exports("mitongory_version_0_80"));
     let two = ["mitongory_version_1_0", "mitongory_version_0_1", "mitongory_version_1_0"];
     assert_eq!(judged(Some(&symbols(&two))), exports("mitongory_version_0_1, mitongory_version_1_0"));
     assert_eq!(judged(Some(b"")), exports("no version"));
-    let section = [".text.mitongory_version_0_7", "mitongory_version_0_1"];
+    let section = [".text.mitongory_version_0_8", "mitongory_version_0_1"];
     assert_eq!(judged(Some(&symbols(&section))), exports("mitongory_version_0_1"));
 
     let missing = judged(None).unwrap_err();
     assert!(missing.starts_with("DIR/libmitongory.a cannot be read"), "{missing}");
     assert!(missing.ends_with("run `make lib` first, or name its folder in MITONGORY_LIB_DIR"), "{missing}");
     for target in ["aarch64-linux", "x86_64-macos"] {
-        let said = script::judge(Path::new("nowhere"), target, "0_7");
+        let said = script::judge(Path::new("nowhere"), target, "0_8");
         assert_eq!(said, Err(format!("the archive is code for x86_64-linux, and the target is {target}")));
     }
 }

@@ -82,7 +82,7 @@ fn counts_of_64_bits() {
         let more = 1u64 << bit;
         assert_eq!(search(&bytes, more | 16, &bytes, 8, [0, 0, ALL], &mut []), (1, UNCHANGED));
         assert_eq!(search_set(&bytes, more | 16, [&bytes; 2], &[8], [0, ALL], &mut []), (1, UNCHANGED));
-        assert_eq!(ffi::eight_bits(&bytes, more | 16, 0, &mut [9]), 1);
+        assert_eq!(ffi::eight_bits(&bytes, more | 16, 0, &mut [9; 2]), 1);
     }
     for bit in 12..64 {
         let more = 1u64 << bit;
@@ -170,7 +170,9 @@ fn lengths() {
         assert_eq!(ffi::list_read(&[0], &mut [], &mut cells), want);
         assert_eq!(ffi::hash_value(&[0], &[0], 8, 0, &mut cells), want);
         assert_eq!(ffi::scratch_cells(0, 8, &mut cells), want);
+        let want = if answer < 2 { 101 } else { 0 };
         assert_eq!(ffi::eight_bits(&[0], 8, 0, &mut cells), want);
+        assert!(answer < 2 || cells[..2] == [0, 8]);
         let want = if answer < 3 { 101 } else { 0 };
         assert_eq!(ffi::mark_sitting(&[], &[], &[], &mut [], &mut cells), want);
         let want = if answer < 4 { 101 } else { 0 };
@@ -202,8 +204,9 @@ fn nothing_lent() {
     assert_eq!(ffi::hash_value(&[], &[], 1, 0, &mut [0]), 4);
     assert_eq!(ffi::hash_value(&[0], &[], 1, 0, &mut [0]), 17);
     assert_eq!(ffi::hash_value(&[0], &[0], 1, 0, &mut [0]), 5);
+    let mut answer = [9; 2];
     assert_eq!(ffi::eight_bits(&[], 0, 0, &mut []), 101);
-    assert_eq!(ffi::eight_bits(&[], 0, 0, &mut [0]), 6);
+    assert_eq!((ffi::eight_bits(&[], 0, 0, &mut answer), answer), (0, [0; 2]));
     assert_eq!(ffi::list_size(&[], &mut []), 101);
     assert_eq!(ffi::list_write(&[], &mut [], &mut []), 101);
     assert_eq!(ffi::list_write(&[], &mut [], &mut [0]), 9);
@@ -253,7 +256,8 @@ fn lengths_of_64_bits() {
     let mut long = vec![0u8; (1 << 32) + 1];
     assert_eq!(search(&long, 9, &[0x80], 1, [0, 0, ALL], &mut []), (0, [9, 0, 9, 0]));
     assert_eq!(search(&[0], 8, &long, 9, [0, 0, ALL], &mut []), (0, [0, 0, 0, 0]));
-    assert_eq!(ffi::eight_bits(&long, 9, 1, &mut [0]), 0);
+    let mut answer = [9; 2];
+    assert_eq!((ffi::eight_bits(&long, 9, 1, &mut answer), answer), (0, [0, 8]));
     assert_eq!(search_with(&[0], 8, [&[0, 0], &long], 9, [0, 0, ALL], &mut []), (0, [0, 0, 0, 0]));
     assert_eq!(search_set(&long, 9, [&[0x80, 0x40]; 2], &[1, 2], [0, ALL], &mut []), (0, [9, 0, 9, 0]));
     assert_eq!(search_set(&[0], 8, [&long, &[0; 3]], &[9, 8], [0, 0], &mut []), (0, [0, 0, 0, 2]));
@@ -293,7 +297,8 @@ fn largest_text() {
     assert_eq!(search_set(&text, n, runs, &counts, [0, 1_000], &mut []), (0, [1_000, 0, 1_000, 2]));
     assert_eq!(search_set(&text, n + 1, runs, &counts, [0, ALL], &mut []).0, 1);
     assert_eq!(search(&text, n + 1, &ones, 64, [0, 0, ALL], &mut []).0, 1);
-    let mut answer = [0];
-    assert_eq!((ffi::eight_bits(&text, n, (1 << 30) - 8, &mut answer), answer), (0, [0xff]));
-    assert_eq!(ffi::eight_bits(&text, n, (1 << 30) - 7, &mut answer), 6);
+    let mut answer = [9; 2];
+    for (place, want) in [(8, [0xff, 8]), (7, [0xfe, 7]), (1, [0x80, 1]), (0, [0, 0])] {
+        assert_eq!((ffi::eight_bits(&text, n, (1 << 30) - place, &mut answer), answer), (0, want));
+    }
 }

@@ -5,6 +5,7 @@ mod archive;
 mod boundary;
 mod buffers;
 mod codec;
+mod eight_bits;
 mod files;
 mod marking;
 mod occurrences;

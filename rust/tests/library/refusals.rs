@@ -156,10 +156,11 @@ fn sets_of_patterns() {
 
 #[test]
 fn eight_bits_and_hash_values() {
-    let text = Text::new(&[0xff; 5], 36).unwrap();
-    assert_eq!(text.eight_bits(28), Ok(0xff));
-    assert_eq!(text.eight_bits(29).unwrap_err().number(), 6);
-    assert_eq!(text.eight_bits(u32::MAX).unwrap_err().number(), 6);
+    // A text that the library takes gives eight bits from any place on.
+    for (bytes, n, number) in [(5, 36, 0), (4, 36, 2), (4, (1 << 30) + 1, 1), (0, 0, 0)] {
+        let said = [0, 29, 36, u32::MAX].map(|place| ffi::eight_bits(&vec![0xff; bytes], n, place, &mut [0; 2]));
+        assert_eq!(said, [number; 4]);
+    }
     assert_eq!(Pattern::new(&[0xff], 7).unwrap().hash_value(0).unwrap_err().number(), 5);
     assert_eq!(Pattern::new(&[0xff], 8).unwrap().hash_value(0), Ok(8));
     assert_eq!(Pattern::with_fixed(&[0xff], &[0x00], 7).unwrap().hash_value(0).unwrap_err().number(), 5);

@@ -1,4 +1,4 @@
-//! The calls for eight bits, for H and for the cells of scratch against their rules.
+//! The calls for H and for the cells of scratch against their rules.
 use crate::buffers::Lent;
 use crate::random::Random;
 use crate::rules::{self, bits, least_move, takes};
@@ -12,36 +12,6 @@ fn check(said: u32, answer: &Lent<u64>, want: Result<u64, u32>) -> bool {
         Ok(value) => said == 0 && answer.begins_with(&[value]),
         Err(number) => said == number && answer.unchanged(),
     }
-}
-
-fn byte(eight: &[bool]) -> u64 {
-    eight.iter().fold(0, |sum, &bit| 2 * sum + u64::from(bit))
-}
-
-#[test]
-fn eight_bits() {
-    let random = Random::of("eight_bits");
-    let (calls, mut answer) = (400_000, Lent::new(&random, 4));
-    let bytes: Vec<u8> = (0..40).map(|_| random.draw() as u8).collect();
-    for _ in 0..calls {
-        let bytes = &bytes[random.below(40)..];
-        let len = bytes.len() as u64;
-        let near = 8 * len + random.below(20) as u64;
-        let n = random.one_of(&[8 * len, near - near.min(10), 0, 7, 8, 1 << random.below(64), u64::MAX]);
-        let end = n.wrapping_sub(random.below(12) as u64) as u32;
-        let place = random.one_of(&[random.one_of(&[0, 1]), end, random.below(320) as u32, u32::MAX, u32::MAX - 7]);
-        let cells = random.one_of(&[0, 1, 1, 1, 2, 4]);
-        let want = match () {
-            _ if cells == 0 => Err(101),
-            _ if n > 1 << 30 => Err(1),
-            _ if len < n.div_ceil(8) => Err(2),
-            _ if u64::from(place) + 8 > n => Err(6),
-            _ => Ok(byte(&bits(bytes, n as usize)[place as usize..place as usize + 8])),
-        };
-        let said = ffi::eight_bits(bytes, n, place, answer.lend(cells));
-        assert!(check(said, &answer, want), "{bytes:x?}, n {n}, place {place}, {cells} cells: {said}, not {want:?}");
-    }
-    println!("eight_bits: {calls} calls");
 }
 
 #[test]

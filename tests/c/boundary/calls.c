@@ -10,7 +10,6 @@ static const struct {
     size_t input, output;
 } element[] = {
     {sizeof(uint8_t), 0},                 /* HASH_VALUE */
-    {sizeof(uint8_t), 0},                 /* EIGHT_BITS */
     {sizeof(uint32_t), 0},                /* LIST_SIZE */
     {sizeof(uint32_t), sizeof(uint8_t)},  /* LIST_WRITE */
     {sizeof(uint8_t), sizeof(uint32_t)}}; /* LIST_READ */
@@ -21,8 +20,6 @@ static uint32_t result_of(const struct call *c, const void *input, const void *f
     case HASH_VALUE:
         return mitongory_hash_value(input, c->input_len, fixed, c->fixed_len, c->bits, (uint8_t)c->number, answer,
                                     c->answer_len);
-    case EIGHT_BITS:
-        return mitongory_eight_bits(input, c->input_len, c->bits, c->number, answer, c->answer_len);
     case LIST_SIZE:
         return mitongory_list_size(input, c->input_len, answer, c->answer_len);
     case LIST_WRITE:

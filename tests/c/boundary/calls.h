@@ -1,11 +1,11 @@
-/* The five calls with one answer cell: each is made on both sides, with all that is expected of it. */
+/* The four calls with one answer cell and buffers: each is made on both sides, with all that is expected of it. */
 #ifndef CALLS_H
 #define CALLS_H
 
 #include <stddef.h>
 #include <stdint.h>
 
-enum function { HASH_VALUE, EIGHT_BITS, LIST_SIZE, LIST_WRITE, LIST_READ };
+enum function { HASH_VALUE, LIST_SIZE, LIST_WRITE, LIST_READ };
 
 struct call {
     enum function function;
@@ -13,8 +13,8 @@ struct call {
     size_t input_len;  /* in elements, as the other lengths */
     const void *fixed; /* HASH_VALUE: one more that is only read */
     size_t fixed_len;
-    uint64_t bits;     /* HASH_VALUE: m; EIGHT_BITS: n */
-    uint32_t number;   /* HASH_VALUE: the value; EIGHT_BITS: the place */
+    uint64_t bits;     /* HASH_VALUE: m */
+    uint32_t number;   /* HASH_VALUE: the value */
     size_t output_len; /* of the buffer that LIST_WRITE and LIST_READ write */
     size_t answer_len;
 };

@@ -39,9 +39,9 @@ static void version(void)
 {
     char text[40];
     about("version");
-    check(MITONGORY_VERSION_NUMBER == 701, "number of the header");
+    check(MITONGORY_VERSION_NUMBER == 800, "number of the header");
     check(mitongory_version() == MITONGORY_VERSION_NUMBER, "number of the library");
-    check(mitongory_version_0_7() == mitongory_version(), "the two functions");
+    check(mitongory_version_0_8() == mitongory_version(), "the two functions");
     snprintf(text, sizeof text, "%d.%d.%d", MITONGORY_VERSION_MAJOR, MITONGORY_VERSION_MINOR, MITONGORY_VERSION_PATCH);
     check(strcmp(text, MITONGORY_VERSION) == 0, "text");
 }
@@ -52,6 +52,13 @@ static void cells_of_a_search(void)
     check(MITONGORY_SCRATCH_CELLS == 4222, "scratch");
     check(MITONGORY_ANSWER_CELLS == 4, "answer");
     check(MITONGORY_FIXED_BYTES_MISSING == 17, "refusal of the second run");
+}
+
+static void cells_of_eight_bits(void)
+{
+    about("eight bits");
+    check(MITONGORY_EIGHT_CELLS == 2, "cells");
+    check(MITONGORY_BYTE == 0 && MITONGORY_COUNT == 1, "their order");
 }
 
 static void numbers_of_a_set(void)
@@ -107,6 +114,7 @@ void header(void)
 {
     version();
     cells_of_a_search();
+    cells_of_eight_bits();
     numbers_of_a_set();
     numbers_of_a_sitting();
     result_texts();

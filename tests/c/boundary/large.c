@@ -73,10 +73,12 @@ static void largest_text(void)
     check(search_largest_for_set(text, LARGEST_N) == MITONGORY_OK, "a set from the largest mark");
     check(answer[MITONGORY_STEPS] == 0 && answer_is(0, LARGEST_N), "its answer there");
     check(search_largest_for_set(text, LARGEST_N + 1) == MITONGORY_BEYOND_END, "a set after it");
-    check(mitongory_eight_bits(text, bytes, LARGEST_N, LARGEST_N - 8, answer, 1) == MITONGORY_OK && answer[0] == 1,
+    check(mitongory_eight_bits(text, bytes, LARGEST_N, LARGEST_N - 8, answer, 2) == MITONGORY_OK && answer[0] == 1 &&
+              answer[1] == 8,
           "eight bits");
-    check(mitongory_eight_bits(text, bytes, LARGEST_N, LARGEST_N - 7, answer, 1) == MITONGORY_BEYOND_END,
-          "eight bits past the end");
+    check(mitongory_eight_bits(text, bytes, LARGEST_N, LARGEST_N - 7, answer, 2) == MITONGORY_OK && answer[0] == 2 &&
+              answer[1] == 7,
+          "seven bits before the end");
     munmap(text, bytes + page);
 }
 
@@ -226,8 +228,8 @@ static void long_values(void)
 {
     about("a value with a length of 33 bits");
     memcpy(huge, paper1_text, sizeof paper1_text);
-    check(mitongory_eight_bits(huge, length, PAPER1_N, PAPER1_OCCURRENCE, answer, 1) == MITONGORY_OK &&
-              answer[0] == paper1_pattern[0],
+    check(mitongory_eight_bits(huge, length, PAPER1_N, PAPER1_OCCURRENCE, answer, 2) == MITONGORY_OK &&
+              answer[0] == paper1_pattern[0] && answer[1] == 8,
           "text of eight bits");
     clear(sizeof paper1_text);
     memcpy(huge, paper1_pattern, sizeof paper1_pattern);

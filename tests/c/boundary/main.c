@@ -16,6 +16,7 @@ int main(void)
     drawn();
     scratches();
     values();
+    eights();
     lists();
     sitting();
     drawn_sittings();

@@ -7,6 +7,7 @@ void wild(void);
 void drawn(void);
 void scratches(void);
 void values(void);
+void eights(void);
 void lists(void);
 void drawn_files(void);
 void sitting(void);

@@ -48,7 +48,8 @@ static void empty_buffers(const char *name, void *nowhere)
     check(mitongory_hash_value(paper1_pattern, 1, nowhere, 0, m, 0, answer, 1) == MITONGORY_FIXED_BYTES_MISSING,
           "hash value with an empty second run");
     check(mitongory_eight_bits(nowhere, 0, 0, 0, nowhere, 0) == MITONGORY_ANSWER_CELLS_MISSING, "eight bits");
-    check(mitongory_eight_bits(nowhere, 0, 0, 0, answer, 1) == MITONGORY_BEYOND_END, "eight bits of none");
+    check(mitongory_eight_bits(nowhere, 0, 0, 0, answer, 2) == MITONGORY_OK && answer[0] == 0 && answer[1] == 0,
+          "eight bits of none");
     check(mitongory_list_size(nowhere, 0, nowhere, 0) == MITONGORY_ANSWER_CELLS_MISSING, "list size");
     check(mitongory_list_size(nowhere, 0, answer, 1) == MITONGORY_OK && answer[0] == 1, "size of the empty list");
     check(mitongory_list_write(nowhere, 0, nowhere, 0, nowhere, 0) == MITONGORY_ANSWER_CELLS_MISSING, "list write");

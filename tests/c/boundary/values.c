@@ -1,4 +1,4 @@
-/* H(B) and eight bits: values, refusals, the largest numbers. */
+/* H(B): values, refusals, the largest numbers. */
 #include <mitongory.h>
 
 #include "bounds.h"
@@ -25,13 +25,6 @@ static void hash_value(const char *name, const void *pattern, size_t bytes, uint
                        uint32_t result, uint64_t told)
 {
     hash_wild(name, pattern, all_fixed, bytes, m, value, answer_len, result, told);
-}
-
-static void eight_bits(const char *name, const void *text, size_t text_len, uint64_t n, uint32_t place, size_t answer_len,
-                       uint32_t result, uint64_t told)
-{
-    struct call c = {EIGHT_BITS, text, text_len, NULL, 0, n, place, 0, answer_len};
-    calling(name, c, result, told, NULL);
 }
 
 static void hash_values(void)
@@ -132,36 +125,10 @@ static void drawn_hash_values(void)
         }
 }
 
-static void eights(void)
-{
-    const uint8_t *r1 = paper1_text;
-    uint32_t p;
-    for (p = 0; p + 8 <= PAPER1_N; p++) {
-        uint64_t byte = 0;
-        unsigned j;
-        for (j = 0; j < 8; j++)
-            byte = byte * 2 + bit(r1, p + j);
-        eight_bits("eight bits of paper 1", r1, 5, PAPER1_N, p, 1, MITONGORY_OK, byte);
-    }
-    eight_bits("more answer cells", r1, 5, PAPER1_N, PAPER1_N - 8, 3, MITONGORY_OK, 0x49);
-    eight_bits("past the end", r1, 5, PAPER1_N, PAPER1_N - 7, 1, MITONGORY_BEYOND_END, 0);
-    eight_bits("the largest place", r1, 5, PAPER1_N, UINT32_MAX, 1, MITONGORY_BEYOND_END, 0);
-    eight_bits("a place whose end wraps at 32 bits", r1, 5, PAPER1_N, UINT32_MAX - 7, 1, MITONGORY_BEYOND_END, 0);
-    eight_bits("seven bits", r1, 1, 7, 0, 1, MITONGORY_BEYOND_END, 0);
-    eight_bits("no bits", NULL, 0, 0, 0, 1, MITONGORY_BEYOND_END, 0);
-    eight_bits("one byte too few", r1, 1, 9, 0, 1, MITONGORY_TEXT_BYTES_MISSING, 0);
-    eight_bits("n = 2^30 with five bytes", r1, 5, LARGEST_N, 0, 1, MITONGORY_TEXT_BYTES_MISSING, 0);
-    eight_bits("n = 2^30 + 1", r1, 5, LARGEST_N + 1, 0, 1, MITONGORY_TEXT_TOO_LONG, 0);
-    eight_bits("the largest n", r1, 5, UINT64_MAX, 0, 1, MITONGORY_TEXT_TOO_LONG, 0);
-    eight_bits("no answer cell", r1, 5, PAPER1_N, 0, 0, MITONGORY_ANSWER_CELLS_MISSING, 0);
-    eight_bits("no answer cell, and the largest n", r1, 5, UINT64_MAX, 0, 0, MITONGORY_ANSWER_CELLS_MISSING, 0);
-}
-
 void values(void)
 {
     hash_values();
     hash_of_a_wild_field();
     refused_hash_values();
     drawn_hash_values();
-    eights();
 }
