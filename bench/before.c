@@ -1,6 +1,7 @@
 // Times the library's searches against those of an earlier archive, on the same data in the same run, with all bits of the
 // pattern fixed. bench/run links that archive with its calls under other names; where there is none, there is nothing to time.
-// The calls must have today's parameters, as they have since version 0.6. For the list file see files.c.
+// The calls must have today's parameters, as they have since version 0.6. For list files see files.c, for
+// eight bits eights.c.
 #include "bench.h"
 #include "draw.h"
 #include "library.h"
@@ -116,4 +117,5 @@ void time_before(void) {
     }
     free(t), free(list);
     time_files_before();
+    time_eights_before();
 }

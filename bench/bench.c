@@ -8,7 +8,8 @@
 //   bench sets [BITS_LOG2]  searches for a set of patterns, nanoseconds for each bit
 //   bench files             the position list file, nanoseconds for a position
 //   bench sitting           the marking of a sitting, nanoseconds for a position
-//   bench before            searches and list files of the library against an earlier archive of it, where one was linked
+//   bench eights            eight bits by themselves, nanoseconds for a call
+//   bench before            searches, list files and eight bits against an earlier archive of the library, where one was linked
 //   bench all               all of the timed parts, but for the last one
 #include "bench.h"
 #include <stdio.h>
@@ -67,7 +68,14 @@ int main(int count, char **args) {
                "positions and one that does not, and the faster of the two is its time.\n");
         known = 1, time_sitting();
     }
+    if (all || !strcmp(mode, "eights")) {
+        printf("\n## Eight bits\n\n"
+               "Eight bits by themselves, with how many of them lie before n: nanoseconds for a call at a place of a text of 2^17\n"
+               "bits.\n");
+        known = 1, time_eights();
+    }
     if (!strcmp(mode, "before")) known = 1, time_before();
-    if (!known) fprintf(stderr, "bench check | texts | wild | hard | short | tables | sets | files | sitting | before | all\n");
+    if (!known)
+        fprintf(stderr, "bench check | texts | wild | hard | short | tables | sets | files | sitting | eights | before | all\n");
     return known ? 0 : 2;
 }

@@ -282,8 +282,9 @@ int check(long rounds) {
             }
         }
     }
-    long sittings = check_sittings(rounds * 1000), sets = check_sets(rounds * 20);
-    printf("%ld searches as the rules say, %ld list file calls alike, %ld sets and %ld sittings as the rules say\n", calls, files,
-           sets, sittings);
+    long sittings = check_sittings(rounds * 1000), sets = check_sets(rounds * 20), eights = check_eights(rounds * 500);
+    printf("%ld searches as the rules say, %ld list file calls alike, %ld sets, %ld sittings and %ld reads of eight bits as the "
+           "rules say\n",
+           calls, files, sets, sittings, eights);
     return 0;
 }

@@ -10,6 +10,10 @@ size_t naive_search(const uint8_t *text, size_t n, const uint8_t *pattern, const
 size_t naive_search_wild(const uint8_t *text, size_t n, const uint8_t *pattern, const uint8_t *fixed, size_t m, uint32_t *list,
                          size_t cells);
 
+// A byte of up to eight bits, and how many there are; returns 0, or 1 where the text is refused.
+uint32_t naive_eight_bits(const uint8_t *text, size_t text_len, uint64_t n, uint32_t place, uint64_t *answer,
+                          size_t answer_len);
+
 // The file of a list, or the list of a file: the byte count or the list's count, or SIZE_MAX where there is none.
 size_t naive_write(const uint32_t *list, size_t count, uint8_t *target, size_t len);
 size_t naive_read(const uint8_t *file, size_t len, uint32_t *cells, size_t count);

@@ -6,6 +6,14 @@ fn bit(bytes: &[u8], p: usize) -> bool {
     bytes[p / 8] >> (7 - p % 8) & 1 == 1
 }
 
+/// A byte of up to eight bits from p on, and how many there are.
+fn eight_bits(text: &[u8], n: u64, p: u64) -> (u64, u64) {
+    (p..p + 8).fold((0, 0), |(byte, count), p| {
+        let inside = p < n;
+        (2 * byte + u64::from(inside && bit(text, p as usize)), count + u64::from(inside))
+    })
+}
+
 fn search(n: usize, m: usize, list: &mut [u32], agrees: impl Fn(usize, usize) -> bool) -> usize {
     let mut hits = 0;
     for s in 0..(n + 1).saturating_sub(m) {
@@ -131,6 +139,25 @@ pub unsafe extern "C" fn naive_search_wild(
     let fixed = slice::from_raw_parts(fixed, m.div_ceil(8));
     let agrees = |s, j| !bit(fixed, j) || bit(text, s + j) == bit(pattern, j);
     search(n, m, slice::from_raw_parts_mut(list, cells), agrees)
+}
+
+/// # Safety
+/// Each pointer has as many elements as the number after it says.
+#[no_mangle]
+pub unsafe extern "C" fn naive_eight_bits(
+    text: *const u8,
+    text_len: usize,
+    n: u64,
+    place: u32,
+    answer: *mut u64,
+    answer_len: usize,
+) -> u32 {
+    let (text, answer) = (slice::from_raw_parts(text, text_len), slice::from_raw_parts_mut(answer, answer_len));
+    if n > 1 << 30 || (text_len as u64) < n.div_ceil(8) {
+        return 1;
+    }
+    (answer[0], answer[1]) = eight_bits(text, n, place.into());
+    0
 }
 
 /// # Safety
