@@ -17,9 +17,10 @@ use Rattle.matcher.proofs.SingleBits.{trailing-below, trailing-lt}
 use Rattle.set_rules.specs.PatternSet.{PatternSet, patternAt}
 use Rattle.set_rules.specs.Hits.{standing}
 use Rattle.set_rules.specs.Verdict.{roomIn}
-use Rattle.set.specs.Fronts.{begins, Flags, Tables}
-use Rattle.set.specs.Parts.{Looked, Marked, PairsWritten, Listing, Blocked}
-use Rattle.set.proofs.Scanning.{looked-flags}
+use Rattle.set_tables.specs.Fronts.{begins, Flags, Tables}
+use Rattle.set_tables.specs.Parts.{Looked, Marked}
+use Rattle.set.specs.Parts.{PairsWritten, Listing, Blocked}
+use Rattle.set_tables.proofs.Scanning.{looked-flags}
 use Rattle.set.proofs.Standing.{none-left}
 use Rattle.set.proofs.Running.{listing-none, listing-skip, listing-more}
 

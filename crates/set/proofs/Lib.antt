@@ -4,9 +4,6 @@ pub mod Answers
 pub mod Calls
 pub mod Single
 pub mod Progress
-pub mod Begins
-pub mod Entering
-pub mod Scanning
 pub mod Standing
 pub mod Listing
 pub mod Running

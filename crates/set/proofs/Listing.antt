@@ -24,8 +24,8 @@ use Rattle.matcher.proofs.SingleBits.{trailing-below, trailing-at, trailing-lt,
 use Rattle.matcher.proofs.Writing.{writing-none, writing-more}
 use Rattle.set_rules.specs.PatternSet.{PatternSet, patternAt}
 use Rattle.set_rules.specs.Hits.{standing}
-use Rattle.set.specs.Fronts.{begins, Flags, Lengths}
-use Rattle.set.specs.Parts.{Listed}
+use Rattle.set_tables.specs.Fronts.{begins, Flags}
+use Rattle.set.specs.Parts.{Lengths, Listed}
 use Rattle.set.proofs.Standing.{stands-short, unset, set-begins}
 
 -- Flags listed lowest first

@@ -18,7 +18,7 @@ use Rattle.search.proofs.Accepting.{neither}
 use Rattle.matcher.specs.Progress.{GoodPattern}
 use Rattle.set_rules.specs.PatternSet.{PatternSet, startOf, patternFrom, patternAt, setPlaces}
 use Rattle.set_rules.specs.Verdict.{setSize, patternRows, rowsFrom, markBeyond, rows}
-use Rattle.set.specs.Parts.{GoodSet, Allowed}
+use Rattle.set.specs.Parts.{Allowed}
 
 -- ---- tables in parts
 

@@ -29,7 +29,7 @@ use Rattle.matcher.proofs.SingleBits.{trailing-below, trailing-at, trailing-lt}
 use Rattle.matcher.proofs.Writing.{writing-none, writing-more, sets-append}
 use Rattle.set_rules.specs.PatternSet.{PatternSet, startOf, patternAt}
 use Rattle.set_rules.specs.Hits.{Hit, hitAt, standing, cellsOf}
-use Rattle.set.specs.Fronts.{begins, Flags}
+use Rattle.set_tables.specs.Fronts.{begins, Flags}
 use Rattle.set.specs.Parts.{PairsWritten}
 
 -- The first 32 bits of a pattern, compared with those of the text at p

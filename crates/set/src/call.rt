@@ -1,21 +1,22 @@
 // All steps of a call.
 use crate::Answer;
 use crate::check;
-use crate::scan;
 use crate::step;
 use crate::step::Sure;
-use crate::tables;
 use bits::Place;
 use bits::load;
 use search::Mark;
 use search::Stop;
+use set_tables::scan;
+use set_tables::tables;
 ghost use mathlib.Core.Path.{_≡_};
 ghost use Prim.Native.Nat.{_+_, _/_, _≤_, min};
 ghost use lib.ListN.{length};
 ghost use Rattle.matcher.specs.Progress.{textOf};
 ghost use Rattle.set_rules.specs.PatternSet.{setPlaces};
-ghost use Rattle.set.specs.Fronts.{Tables, Kept, Lengths};
-ghost use Rattle.set.specs.Parts.{setOf, Allowed, Blocked, BlockPassed, Ran, Tells, Leaves};
+ghost use Rattle.set_tables.specs.Fronts.{Tables, Kept};
+ghost use Rattle.set_tables.specs.Parts.{setOf};
+ghost use Rattle.set.specs.Parts.{Lengths, Allowed, Blocked, BlockPassed, Ran, Tells, Leaves};
 
 // What the steps of a call leave: the mark, the steps made, the pairs written, and whether a place's pairs found no room.
 pub struct Left {

@@ -12,8 +12,8 @@ ghost use Rattle.matcher.specs.Progress.{textOf};
 ghost use Rattle.search.specs.Verdict.{judge};
 ghost use Rattle.set_rules.specs.PatternSet.{patternFrom, largest};
 ghost use Rattle.set_rules.specs.Verdict.{patternRows, rows};
-ghost use Rattle.set.specs.Fronts.{Lengths};
-ghost use Rattle.set.specs.Parts.{setOf, checkOf};
+ghost use Rattle.set_tables.specs.Parts.{setOf};
+ghost use Rattle.set.specs.Parts.{checkOf, Lengths};
 
 // Whether a call is refused.
 pub enum Checked {

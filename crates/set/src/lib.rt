@@ -1,23 +1,21 @@
 // A set of 1 to 64 patterns searched for in one pass. Mark, budget and ways to stop are those of the search for one
 // pattern. A step decides one place for all patterns, and a hit is a pair of place and pattern number.
 //
-// The method: tables of 256 words tell which patterns begin with given bits, a flag for each pattern. Table 0 goes by a
-// place's first eight bits, table 1 by the next eight, and so on. Four loads and three `and` leave the flags of the
+// The method: tables of 256 words (`set_tables`) tell which patterns begin with given bits, a flag for each pattern. Table 0
+// goes by a place's first eight bits, table 1 by the next eight, and so on. Four loads and three `and` leave the flags of the
 // patterns whose first 32 bits agree with the text at a place; mostly no flag stands, and so no pattern does. Where flags
 // stand, those patterns have to fit, and the ones of more than 32 bits are compared by all of their bits.
 mod call;
 mod check;
-mod scan;
 mod step;
-mod tables;
 
 use check::Checked;
 use search::Mark;
 use search::Stop;
 ghost use mathlib.Core.Path.{_≡_};
 ghost use Rattle.matcher.specs.Progress.{textOf};
+ghost use Rattle.set_tables.specs.Parts.{setOf};
 ghost use Rattle.set.specs.Promise.{numberOfRefusal, Searched};
-ghost use Rattle.set.specs.Parts.{setOf};
 
 // The answer of an accepted call. The occurrences are pairs.
 pub struct Answer {

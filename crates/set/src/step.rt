@@ -11,8 +11,9 @@ ghost use Rattle.rules.specs.Occurrence.{occurs};
 ghost use Rattle.matcher.specs.Progress.{textOf, Writing};
 ghost use Rattle.set_rules.specs.PatternSet.{patternAt};
 ghost use Rattle.set_rules.specs.Hits.{standing};
-ghost use Rattle.set.specs.Fronts.{begins, Flags, Kept, Lengths};
-ghost use Rattle.set.specs.Parts.{setOf, GoodSet, Listed, PairsWritten};
+ghost use Rattle.set_tables.specs.Fronts.{begins, Flags, Kept};
+ghost use Rattle.set_tables.specs.Parts.{setOf, GoodSet};
+ghost use Rattle.set.specs.Parts.{Lengths, Listed, PairsWritten};
 
 // What the lengths of the patterns tell: before the place `until` every pattern fits, and a pattern without a flag in `long`
 // has at most the 32 bits that the tables compare.

@@ -12,7 +12,8 @@ use Rattle.set.specs.declared.check.Checked.the-variants.{Passed, Refuse
 use Rattle.set.specs.declared.Refusal.{Refusal}
 use Rattle.set_rules.specs.Verdict.{Request, rows, machine, verdict}
 use Rattle.set.specs.Promise.{numberOfRefusal}
-use Rattle.set.specs.Parts.{setOf, checkOf, Allowed}
+use Rattle.set_tables.specs.Parts.{setOf}
+use Rattle.set.specs.Parts.{checkOf, Allowed}
 use Rattle.set.proofs.Rows.{allowed, judge-again}
 use Rattle.set.proofs.search_set.Statement.{statement}
 use Rattle.set.proofs.search_set.Tie as tie

@@ -8,9 +8,9 @@ use borrow.Author.Needs.{needs}
 use lib.ListN.{length, getD, replicate}
 use Rattle.matcher.specs.Progress.{textOf}
 use Rattle.set_rules.specs.PatternSet.{setPlaces}
-use Rattle.set.specs.Parts.{setOf}
+use Rattle.set_tables.specs.Parts.{setOf}
 use Rattle.set_rules.proofs.Hits.{largest-least}
-use Rattle.set.proofs.Entering.{tables-of}
+use Rattle.set_tables.proofs.Entering.{tables-of}
 use Rattle.set.proofs.Running.{leaves-run}
 use Rattle.set.proofs.call.accepted.Statement.{statement}
 use Rattle.set.proofs.call.accepted.Tie as tie

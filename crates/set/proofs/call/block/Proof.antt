@@ -13,7 +13,7 @@ use Rattle.bits.specs.Packed.{Packed}
 use Rattle.matcher.specs.Progress.{textOf}
 use Rattle.matcher.proofs.Writing.{writing-length}
 use Rattle.set_rules.specs.PatternSet.{PatternSet}
-use Rattle.set.specs.Parts.{setOf, Blocked}
+use Rattle.set_tables.specs.Parts.{setOf}
 use Rattle.set.proofs.Running.{listing-length}
 use Rattle.set.proofs.Blocks.{Turning, blocking-none, blocked-all, lowest-inside, passed-to, blocking-more}
 use Rattle.set.proofs.call.block.Statement.{statement}

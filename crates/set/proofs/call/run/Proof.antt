@@ -9,9 +9,10 @@ use lib.ListN.{length, length-replicate}
 use Rattle.bits.specs.Packed.{Packed, bitsAt}
 use Rattle.matcher.specs.Progress.{textOf}
 use Rattle.set_rules.specs.PatternSet.{PatternSet}
-use Rattle.set.specs.Parts.{setOf, Looked, Listing}
+use Rattle.set_tables.specs.Parts.{setOf, Looked}
+use Rattle.set.specs.Parts.{Listing}
 use Rattle.set_rules.proofs.Hits.{places-least}
-use Rattle.set.proofs.Scanning.{looked-flags}
+use Rattle.set_tables.proofs.Scanning.{looked-flags}
 use Rattle.set.proofs.Blocks.{looked-none}
 use Rattle.set.proofs.Running.{listing-none, listing-length, listing-skip, listing-append, ran-to-limit, ran-to-full}
 use Rattle.set.proofs.call.run.Statement.{statement}

@@ -13,9 +13,10 @@ use Rattle.search.proofs.Verdict.{judge-accepted}
 use Rattle.matcher.specs.Progress.{textOf}
 use Rattle.set_rules.specs.PatternSet.{PatternSet, startOf, patternAt, setPlaces}
 use Rattle.set_rules.specs.Verdict.{patternRows, rowsFrom}
-use Rattle.set.specs.Parts.{setOf, checkOf}
+use Rattle.set_tables.specs.Parts.{setOf}
+use Rattle.set.specs.Parts.{checkOf}
 use Rattle.set.proofs.Rows.{row-1, row-2, row-18-none, row-18-many, row-of, row-6, no-row, rows-none, passing, one-good, start-small}
-use Rattle.set.proofs.Entering.{start-next}
+use Rattle.set_tables.proofs.Entering.{start-next}
 use Rattle.set.proofs.check.check.Statement.{statement}
 use Rattle.set.proofs.check.check.Tie as tie
 

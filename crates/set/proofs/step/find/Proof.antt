@@ -13,8 +13,8 @@ use Rattle.rules.specs.Occurrence.{occurs}
 use Rattle.matcher.specs.Progress.{textOf}
 use Rattle.matcher.proofs.Writing.{writing-length}
 use Rattle.set_rules.specs.PatternSet.{PatternSet, patternAt}
-use Rattle.set.specs.Fronts.{begins, Flags}
-use Rattle.set.specs.Parts.{setOf}
+use Rattle.set_tables.specs.Fronts.{begins, Flags}
+use Rattle.set_tables.specs.Parts.{setOf}
 use Rattle.set.proofs.Standing.{Finding, finding-none, found, few-found, lowest-small, lowest-known, lowest-begins, finding-miss, finding-hit}
 use Rattle.set.proofs.Listing.{listed-stand}
 use Rattle.set.proofs.step.find.Statement.{statement}

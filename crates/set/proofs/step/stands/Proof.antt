@@ -9,7 +9,7 @@ use lib.ListN.{length, getD}
 use Rattle.rules.specs.declared.Method.the-variants.{Plain}
 use Rattle.matcher.specs.Progress.{textOf, GoodPattern}
 use Rattle.set_rules.specs.PatternSet.{PatternSet, startOf, patternAt}
-use Rattle.set.specs.Parts.{setOf}
+use Rattle.set_tables.specs.Parts.{setOf}
 use Rattle.set.proofs.Standing.{start-inside, stands-out, stands-short, head-from, stands-from}
 use Rattle.set.proofs.step.stands.Statement.{statement}
 use Rattle.set.proofs.step.stands.Tie as tie

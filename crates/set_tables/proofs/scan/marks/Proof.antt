@@ -1,11 +1,11 @@
--- `set::scan::marks` meets its contract. The loop's invariant: the places from e on have their bits.
+-- `set_tables::scan::marks` meets its contract. The loop's invariant: the places from e on have their bits.
 -- Assumes nothing.
 use borrow.Author.Needs.{needs}
 use native.Mathlib.Omega.{arith}
 use denote.Ref.{now}
-use Rattle.set.proofs.Scanning.{MarkedFrom, marked-small, marked-none, marked-more, marked-all}
-use Rattle.set.proofs.scan.marks.Statement.{statement}
-use Rattle.set.proofs.scan.marks.Tie as tie
+use Rattle.set_tables.proofs.Scanning.{MarkedFrom, marked-small, marked-none, marked-more, marked-all}
+use Rattle.set_tables.proofs.scan.marks.Statement.{statement}
+use Rattle.set_tables.proofs.scan.marks.Tie as tie
 
 abbrev Inv-loop : tie.InvT-loop
 Inv-loop found m₀ e₀ m e = MarkedFrom found e m

@@ -11,7 +11,7 @@ use Rattle.bits.proofs.Weight.{weight-shr, weight-mod}
 use Rattle.rules.specs.Ranges.{implies, every}
 use Rattle.rules.specs.Pattern.{Pattern, agrees}
 use Rattle.rules.proofs.Ranges.{every-same}
-use Rattle.set.specs.Fronts.{begins}
+use Rattle.set_tables.specs.Fronts.{begins}
 
 and-true : (a : Bool) → a ≡ (a && true)
 and-true true = refl

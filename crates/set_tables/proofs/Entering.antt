@@ -28,9 +28,9 @@ use Rattle.matcher.proofs.SingleBits.{weight-power}
 use Rattle.matcher.proofs.LinedCells.{only-none, only-set}
 use Rattle.matcher.specs.Progress.{HeadOf}
 use Rattle.set_rules.specs.PatternSet.{PatternSet, startOf, patternAt}
-use Rattle.set.specs.Fronts.{begins, Flags, Halves, Tables, front, Kept}
-use Rattle.set.specs.Parts.{GoodSet, HalfEntered, Entered, RowPaired, PairedUp}
-use Rattle.set.proofs.Begins.{begins-parts}
+use Rattle.set_tables.specs.Fronts.{begins, Flags, Halves, Tables, front, Kept}
+use Rattle.set_tables.specs.Parts.{GoodSet, HalfEntered, Entered, RowPaired, PairedUp}
+use Rattle.set_tables.proofs.Begins.{begins-parts}
 
 -- The words of four bits, one group of sixteen cells
 

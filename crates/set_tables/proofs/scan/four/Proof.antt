@@ -1,12 +1,12 @@
--- `set::scan::four` meets its contract: the bytes that it takes are those of the 32 bits at each of the four places.
+-- `set_tables::scan::four` meets its contract: the bytes that it takes are those of the 32 bits at each of the four places.
 -- Assumes nothing.
 use borrow.Author.Needs.{needs}
 use native.Mathlib.Omega.{arith}
 use denote.Ref.{now}
 use lib.ListN.{length-set}
-use Rattle.set.proofs.Scanning.{four-found}
-use Rattle.set.proofs.scan.four.Statement.{statement}
-use Rattle.set.proofs.scan.four.Tie as tie
+use Rattle.set_tables.proofs.Scanning.{four-found}
+use Rattle.set_tables.proofs.scan.four.Statement.{statement}
+use Rattle.set_tables.proofs.scan.four.Tie as tie
 
 mul-first : tie.Need-mul-first
 mul-first c = search needs

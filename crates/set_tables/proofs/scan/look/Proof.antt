@@ -1,12 +1,12 @@
--- `set::scan::look` meets its contract. The loop's invariant: the places at the offsets below i have their flags.
+-- `set_tables::scan::look` meets its contract. The loop's invariant: the places at the offsets below i have their flags.
 -- Assumes nothing.
 use borrow.Author.Needs.{needs}
 use Prim.Native.Nat.{_-_, _≤_}
 use native.Mathlib.Omega.{arith}
 use denote.Ref.{now}
-use Rattle.set.proofs.Scanning.{LookedTo, looked-none, looked-more, looked-all}
-use Rattle.set.proofs.scan.look.Statement.{statement}
-use Rattle.set.proofs.scan.look.Tie as tie
+use Rattle.set_tables.proofs.Scanning.{LookedTo, looked-none, looked-more, looked-all}
+use Rattle.set_tables.proofs.scan.look.Statement.{statement}
+use Rattle.set_tables.proofs.scan.look.Tie as tie
 
 abbrev Inv-loop : tie.InvT-loop
 Inv-loop tables word found₀ any₀ i₀ found any i = (i ≤ 8) × LookedTo tables word found₀ found any i

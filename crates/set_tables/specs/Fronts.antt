@@ -1,5 +1,5 @@
 -- The tables of a set: which patterns begin with given bits, a flag for each pattern.
-use Prim.Native.Nat.{ℕ, _+_, _*_, _/_, _%_, _^_, _≤_, _<_}
+use Prim.Native.Nat.{ℕ, _+_, _*_, _/_, _%_, _^_, _<_}
 use mathlib.Core.Path.{_≡_}
 use mathlib.Core.Bool.{Bool, _&&_, cond}
 use mathlib.Core.List.{List}
@@ -39,9 +39,3 @@ front tables v =
 pub record Kept (ws : PatternSet) (k : ℕ) (rows : List ℕ) : Type 0 where
   pub starts-are : (i : ℕ) → i < k → getD rows i 0 ≡ startOf (ws .counts) i
   pub heads-are : (i : ℕ) → i < k → HeadOf (patternAt ws i) (getD rows (64 + i) 0) (getD rows (128 + i) 0)
-
--- What the lengths tell: before the place `until` every pattern fits, and a pattern without a flag in `long` has at most the 32
--- bits that the tables compare.
-pub record Lengths (n : ℕ) (counts : List ℕ) (until long : ℕ) : Type 0 where
-  pub fits : (p i : ℕ) → p < until → i < length counts → p + getD counts i 0 ≤ n
-  pub short : (i : ℕ) → i < length counts → weight long i ≡ 0 → getD counts i 0 ≤ 32

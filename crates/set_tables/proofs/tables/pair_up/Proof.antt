@@ -1,4 +1,4 @@
--- `set::tables::pair_up` meets its contract. The loop's invariant: the rows below z are made.
+-- `set_tables::tables::pair_up` meets its contract. The loop's invariant: the rows below z are made.
 -- Assumes nothing.
 use borrow.Author.Needs.{needs}
 use Prim.Native.Nat.{_-_, _≤_}
@@ -6,9 +6,9 @@ use native.Mathlib.Omega.{arith}
 use mathlib.Core.Path.{_≡_, refl, _∙_}
 use denote.Ref.{now}
 use lib.ListN.{length}
-use Rattle.set.proofs.Entering.{RowsTo, rows-more, rows-all}
-use Rattle.set.proofs.tables.pair_up.Statement.{statement}
-use Rattle.set.proofs.tables.pair_up.Tie as tie
+use Rattle.set_tables.proofs.Entering.{RowsTo, rows-more, rows-all}
+use Rattle.set_tables.proofs.tables.pair_up.Statement.{statement}
+use Rattle.set_tables.proofs.tables.pair_up.Tie as tie
 
 abbrev Inv-loop : tie.InvT-loop
 Inv-loop halves cells₀ z₀ cells z = (z ≤ 64) × (length cells ≡ length cells₀) × RowsTo halves cells z

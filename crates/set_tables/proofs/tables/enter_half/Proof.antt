@@ -1,4 +1,4 @@
--- `set::tables::enter_half` meets its contract. The loop's invariant: the values below x are passed.
+-- `set_tables::tables::enter_half` meets its contract. The loop's invariant: the values below x are passed.
 -- Assumes nothing.
 use borrow.Author.Needs.{needs}
 use Prim.Native.Nat.{_-_, _≤_}
@@ -6,9 +6,9 @@ use native.Mathlib.Omega.{arith}
 use mathlib.Core.Path.{sym, _∙_}
 use mathlib.Core.Logic.{⊎-elim}
 use denote.Ref.{now}
-use Rattle.set.proofs.Entering.{HalfTo, half-none, half-keep, half-set, half-all}
-use Rattle.set.proofs.tables.enter_half.Statement.{statement}
-use Rattle.set.proofs.tables.enter_half.Tie as tie
+use Rattle.set_tables.proofs.Entering.{HalfTo, half-none, half-keep, half-set, half-all}
+use Rattle.set_tables.proofs.tables.enter_half.Statement.{statement}
+use Rattle.set_tables.proofs.tables.enter_half.Tie as tie
 
 abbrev Inv-loop : tie.InvT-loop
 Inv-loop cells₀ at value care flag x₀ cells x = (x ≤ 16) × HalfTo at value care flag x cells₀ cells

@@ -16,9 +16,9 @@ use Rattle.bits.proofs.Weight.{weight-shr, weight-mod, shl-high, same-weights}
 use Rattle.bits.proofs.Run.{bits-lt, bits-first, bits-last}
 use Rattle.rules.proofs.Ranges.{eq-or-below}
 use Rattle.set_rules.specs.PatternSet.{PatternSet}
-use Rattle.set.specs.Fronts.{begins, Flags, Tables, front}
-use Rattle.set.specs.Parts.{FourFound, Looked, Marked}
-use Rattle.set.proofs.Entering.{front-flags}
+use Rattle.set_tables.specs.Fronts.{begins, Flags, Tables, front}
+use Rattle.set_tables.specs.Parts.{FourFound, Looked, Marked}
+use Rattle.set_tables.proofs.Entering.{front-flags}
 
 -- The bits of a place
 

@@ -1,12 +1,12 @@
--- `set::tables::enter` meets its contract. The loop's invariant: the groups of four bits below g are passed.
+-- `set_tables::tables::enter` meets its contract. The loop's invariant: the groups of four bits below g are passed.
 -- Assumes nothing.
 use borrow.Author.Needs.{needs}
 use Prim.Native.Nat.{_-_, _≤_}
 use native.Mathlib.Omega.{arith}
 use denote.Ref.{now}
-use Rattle.set.proofs.Entering.{EnteredTo, entered-none, entered-more, entered-all}
-use Rattle.set.proofs.tables.enter.Statement.{statement}
-use Rattle.set.proofs.tables.enter.Tie as tie
+use Rattle.set_tables.proofs.Entering.{EnteredTo, entered-none, entered-more, entered-all}
+use Rattle.set_tables.proofs.tables.enter.Statement.{statement}
+use Rattle.set_tables.proofs.tables.enter.Tie as tie
 
 abbrev Inv-loop : tie.InvT-loop
 Inv-loop cells₀ value care flag g₀ cells g = (g ≤ 8) × EnteredTo value care flag g cells₀ cells

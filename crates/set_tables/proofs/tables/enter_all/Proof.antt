@@ -1,5 +1,5 @@
--- `set::tables::enter_all` meets its contract. The loop's invariant: the first i patterns are entered, and the next begins at
--- `start`.
+-- `set_tables::tables::enter_all` meets its contract. The loop's invariant: the first i patterns are entered, and the next
+-- begins at `start`.
 -- Assumes nothing.
 use borrow.Author.Needs.{needs}
 use borrow.Rule.Slice.PartAt.{part-to-end}
@@ -11,10 +11,10 @@ use denote.Ref.{now}
 use lib.Bits.{bitAnd}
 use lib.ListN.{length, length-set}
 use Rattle.bits.specs.Packed.{bitsAt}
-use Rattle.set.specs.Parts.{setOf}
-use Rattle.set.proofs.Entering.{EnteringAll, Inside, entering-inside, entering-none, entering-more, entering-all}
-use Rattle.set.proofs.tables.enter_all.Statement.{statement}
-use Rattle.set.proofs.tables.enter_all.Tie as tie
+use Rattle.set_tables.specs.Parts.{setOf}
+use Rattle.set_tables.proofs.Entering.{EnteringAll, Inside, entering-inside, entering-none, entering-more, entering-all}
+use Rattle.set_tables.proofs.tables.enter_all.Statement.{statement}
+use Rattle.set_tables.proofs.tables.enter_all.Tie as tie
 
 abbrev Inv-loop : tie.InvT-loop
 Inv-loop patterns fixed counts rows₀ halves₀ start₀ i₀ rows halves start i = EnteringAll (setOf patterns fixed counts) i (start .0) rows₀ rows halves₀ halves

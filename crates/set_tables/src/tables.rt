@@ -6,8 +6,8 @@ use matcher::compare;
 ghost use mathlib.Core.Path.{_≡_};
 ghost use Prim.Native.Nat.{ℕ, _+_, _≤_};
 ghost use lib.ListN.{length, getD};
-ghost use Rattle.set.specs.Fronts.{Halves, Kept};
-ghost use Rattle.set.specs.Parts.{setOf, GoodSet, HalfEntered, Entered, RowPaired, PairedUp};
+ghost use Rattle.set_tables.specs.Fronts.{Halves, Kept};
+ghost use Rattle.set_tables.specs.Parts.{setOf, GoodSet, HalfEntered, Entered, RowPaired, PairedUp};
 
 // Sets the flag in the words, from cell `at` on, of those values of four bits that agree with the first four of `value`
 // where `care` has ones.

@@ -1,11 +1,11 @@
--- `set::tables::enter_four` meets its contract: by one store where the four bits are fixed, and else as `enter_half` does.
+-- `set_tables::tables::enter_four` meets its contract: by one store where the four bits are fixed, and else as `enter_half` does.
 -- Assumes nothing.
 use borrow.Author.Needs.{needs}
 use native.Mathlib.Omega.{arith}
 use denote.Ref.{now}
-use Rattle.set.proofs.Entering.{half-one}
-use Rattle.set.proofs.tables.enter_four.Statement.{statement}
-use Rattle.set.proofs.tables.enter_four.Tie as tie
+use Rattle.set_tables.proofs.Entering.{half-one}
+use Rattle.set_tables.proofs.tables.enter_four.Statement.{statement}
+use Rattle.set_tables.proofs.tables.enter_four.Tie as tie
 
 add-cells : tie.Need-add-cells
 add-cells c = search needs

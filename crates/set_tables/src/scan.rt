@@ -3,7 +3,7 @@
 ghost use mathlib.Core.Path.{_≡_};
 ghost use Prim.Native.Nat.{_≤_, _<_};
 ghost use lib.ListN.{length};
-ghost use Rattle.set.specs.Parts.{FourFound, Looked, Marked};
+ghost use Rattle.set_tables.specs.Parts.{FourFound, Looked, Marked};
 
 // The flags of the four places at offset i, the first of which shows the first bit of y. The answer is 0 only if none stands.
 fn four(tables: &[u64], y: u64, i: usize, found: &mut [u64]) -> u64

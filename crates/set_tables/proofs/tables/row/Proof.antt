@@ -1,12 +1,12 @@
--- `set::tables::row` meets its contract. The loop's invariant: the cells below x are made.
+-- `set_tables::tables::row` meets its contract. The loop's invariant: the cells below x are made.
 -- Assumes nothing.
 use borrow.Author.Needs.{needs}
 use Prim.Native.Nat.{_-_, _≤_}
 use native.Mathlib.Omega.{arith}
 use denote.Ref.{now}
-use Rattle.set.proofs.Entering.{RowTo, row-none, row-more, row-all}
-use Rattle.set.proofs.tables.row.Statement.{statement}
-use Rattle.set.proofs.tables.row.Tie as tie
+use Rattle.set_tables.proofs.Entering.{RowTo, row-none, row-more, row-all}
+use Rattle.set_tables.proofs.tables.row.Statement.{statement}
+use Rattle.set_tables.proofs.tables.row.Tie as tie
 
 abbrev Inv-loop : tie.InvT-loop
 Inv-loop halves from first cells₀ at x₀ cells x = (x ≤ 16) × RowTo from at first x halves cells₀ cells
