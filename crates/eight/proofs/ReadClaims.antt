@@ -38,7 +38,7 @@ every-read t p g =
       none = λ h. (let no : countAt (t .count) p ≡ 0 = omega arith in (byte-none t p no, no));
     }
 
-abbrev code : Verdict → ℕ
+abbrev pub code : Verdict → ℕ
 code (shown byte count) = 0
 code (number k) = suc k
 
