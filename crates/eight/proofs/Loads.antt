@@ -7,7 +7,7 @@ use native.Mathlib.Omega.{arith}
 use native.Mathlib.Nat.{zero-add, mod-eq-of-lt}
 use native.Mathlib.Decide.{decLe}
 use lib.ListN.{getD}
-use lib.Pow.{shl-lt, shl-exact}
+use lib.Pow.{shl-lt, shl-exact, shr-shr, shl-shr}
 use Rattle.bits.specs.Packed.{bitAt, bitsAt}
 use Rattle.bits.proofs.Run.{bits-lt, bits-first, bits-last, agree→load}
 use Rattle.bits.proofs.Loads.{bit-in-byte, byte-bits, bytes-more}
@@ -68,11 +68,27 @@ moved-fits bytes p c few =
     let whole : c + (8 - c) ≡ 8 = omega arith in
     rw whole at (shl-lt c (8 - c) (bits-lt bytes p c))
 
--- and a shift in 32 bits, cut to a byte, loses none of them
+-- The two bytes moved to the left by p mod 8, and then to the right by 8: in 32 bits none of theirs is lost.
+lined-up : (x r : ℕ) → x < 2 ^ 16 → r ≤ 8 → x * 2 ^ r % 2 ^ 32 / 2 ^ 8 ≡ x / 2 ^ (8 - r)
+lined-up x r h few =
+    let apart : 8 ≡ r + (8 - r) = omega arith in
+    ap (λ (y : ℕ). y / 2 ^ 8) (shl-exact 16 r 32 h (omega arith))
+    ∙ ap (λ (s : ℕ). x * 2 ^ r / 2 ^ s) apart
+    ∙ sym (shr-shr (x * 2 ^ r) r (8 - r))
+    ∙ ap (λ (y : ℕ). y / 2 ^ (8 - r)) (shl-shr x r)
+
+-- With the bits after the first c made 0, and cut to a byte: what the code computes.
 pub moved-first : (bytes : List ℕ) (p c : ℕ) → 0 < c → c ≤ 8 → ((i : ℕ) → getD bytes i 0 < 256)
-    → (getD bytes (p / 8) 0 * 256 + getD bytes ((p + (c - 1)) / 8) 0) / 2 ^ (8 - p % 8) % 256 / 2 ^ (8 - c) * 2 ^ (8 - c) % 2 ^ 32 % 256
+    → (getD bytes (p / 8) 0 * 256 + getD bytes ((p + (c - 1)) / 8) 0) * 2 ^ (p % 8) % 2 ^ 32 / 2 ^ 8 % 256 / 2 ^ (8 - c) * 2 ^ (8 - c) % 2 ^ 32 % 256
     ≡ bitsAt bytes p c * 2 ^ (8 - c)
 moved-first bytes p c some few h =
-    ap (λ (x : ℕ). x * 2 ^ (8 - c) % 2 ^ 32 % 256) (two-bytes-first bytes p c some few h)
+    ap (λ (x : ℕ). x % 256 / 2 ^ (8 - c) * 2 ^ (8 - c) % 2 ^ 32 % 256) (lined-up both (p % 8) small (omega arith))
+    ∙ ap (λ (x : ℕ). x * 2 ^ (8 - c) % 2 ^ 32 % 256) (two-bytes-first bytes p c some few h)
     ∙ ap (λ (x : ℕ). x % 256) (shl-exact c (8 - c) 32 (bits-lt bytes p c) (omega arith))
     ∙ mod-eq-of-lt (moved-fits bytes p c few)
+  where
+    both : ℕ
+    both = getD bytes (p / 8) 0 * 256 + getD bytes ((p + (c - 1)) / 8) 0
+
+    small : both < 2 ^ 16
+    small = omega (arith, h (p / 8), h ((p + (c - 1)) / 8))

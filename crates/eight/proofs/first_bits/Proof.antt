@@ -49,11 +49,8 @@ add-eight-2 c = record { fits = omega (arith, left-small (c .before), right-smal
 offset-requires : tie.Need-offset-requires
 offset-requires c κs = search needs
 
-sub-eight-2 : tie.Need-sub-eight-2
-sub-eight-2 c = search needs
-
-shr-eight : tie.Need-shr-eight
-shr-eight c = search needs
+shl-eight : tie.Need-shl-eight
+shl-eight c = search needs
 
 sub-result : tie.Need-sub-result
 sub-result c = search needs
@@ -93,8 +90,7 @@ first-bits-spec =
     mul-eight
     add-eight-2
     offset-requires
-    sub-eight-2
-    shr-eight
+    shl-eight
     sub-result
     shr-result
     sub-result-2
