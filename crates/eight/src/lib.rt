@@ -5,7 +5,7 @@ ghost use mathlib.Core.Path.{_≡_};
 ghost use Prim.Native.Nat.{_+_, _-_, _*_, _^_, _≤_, _<_};
 ghost use lib.ListN.{length};
 ghost use Rattle.bits.specs.Packed.{bitsAt};
-ghost use Rattle.eight.specs.Eight.{countAt, numberOf, verdictOf, eightAt};
+ghost use Rattle.eight.specs.Eight.{numberOf, verdictOf, eightAt};
 
 // Why eight bits are refused.
 pub enum Refusal {
@@ -38,19 +38,6 @@ pub enum Eight {
     Refused(Refusal),
 }
 
-// How many of the eight bits from p on lie before n, where one does. The sum has 64 bits, since p may be any number of 32 bits.
-fn count_before(n: u64, p: Place) -> u32
-    requires { ⌜ p .0 < n ⌝ }
-    ensures { λ r. ⌜ r ≡ countAt n (p .0) ⌝ }
-{
-    let at = p.0;
-    if at as u64 + 8 <= n {
-        8
-    } else {
-        (n - at as u64) as u32
-    }
-}
-
 // The first `count` bits from p on, with zeros after them. The last of them is in the byte of the first or in the next one:
 // two loads and no branch.
 fn first_bits(bytes: &[u8], p: Place, count: u32) -> u8
@@ -66,7 +53,8 @@ fn first_bits(bytes: &[u8], p: Place, count: u32) -> u8
     (((eight >> (8 - count)) << (8 - count)) % 256) as u8
 }
 
-// The bits p to p + 7 of the first n bits, as a byte with bit p leftmost, and how many of them lie before n.
+// The bits p to p + 7 of the first n bits, as a byte with bit p leftmost, and how many of them lie before n. Sums have 64 bits,
+// since p may be any number of 32 bits.
 pub fn eight_bits(bytes: &[u8], n: u64, p: Place) -> Eight
     ensures { λ r. ⌜ verdictOf r ≡ eightAt (record { bytes = now (bytes .entry); count = n }) (p .0) ⌝ }
 {
@@ -76,11 +64,21 @@ pub fn eight_bits(bytes: &[u8], n: u64, p: Place) -> Eight
     if (bytes.len() as u64) < bits::bytes_for(n) {
         return Eight::Refused(Refusal::TextBytesMissing);
     }
-    if n <= p.0 as u64 {
+    let at = p.0;
+    if at as u64 + 8 <= n {
+        let all = first_bits(bytes, p, 8);
+        return Eight::Accepted(Shown {
+            byte: all,
+            count: 8,
+        });
+    }
+    // How many of the eight do not lie before n.
+    let past = at as u64 + 8 - n;
+    if 8 <= past {
         return Eight::Accepted(Shown { byte: 0, count: 0 });
     }
-    let count = count_before(n, p);
-    let byte = first_bits(bytes, p, count);
+    let byte = first_bits(bytes, p, (8 - past) as u32);
+    let count = (8 - past) as u32;
     Eight::Accepted(Shown {
         byte: byte,
         count: count,
