@@ -120,7 +120,7 @@ static uint32_t (*const mitongory_version_needed)(void) __attribute__((used)) = 
 #define MITONGORY_SHEETS 256
 #define MITONGORY_SHEET_CELLS 3
 
-/* The cells that a read of eight bits needs in `answer`. All other calls need one. */
+/* The cells that a read of eight bits needs in `answer`. A call that is neither that nor a search nor a sitting needs one. */
 #define MITONGORY_EIGHT_CELLS 2
 
 /* What a call returns. 1 to 18 are the numbers of the requirements; 100 and 101 exist only in this interface. */

@@ -13,7 +13,7 @@ use lib.ListN.{length}
 use Rattle.bits.specs.Packed.{Packed, bytesFor, bitOf, bitAt, bitsAt}
 use Rattle.bits.proofs.Run.{bit-of-bits}
 use Rattle.eight.specs.Eight.{Verdict, shown, number, countAt, shownAt, byteAt, eightAt}
-use Rattle.eight.specs.Claims.{Good, Reads, Told, FromAnswer, OneOrTwo, NoPadding, listOf, taken, reads, GivenBack}
+use Rattle.eight.specs.Claims.{Good, ReadAt, Learned, FromAnswer, OneOrTwo, NoPadding, listOf, taken, reads, GivenBack}
 use Rattle.eight.proofs.ShownByte.{byte-bit, byte-none, byte-inside, byte-same}
 
 -- ---- one read
@@ -26,7 +26,7 @@ accepts t p g = rw (le-ltb _ _ (g .short), le-ltb _ _ (g .enough))
 pub tells : (t : Packed) (p : ℕ) {b k : ℕ} → Good t → b ≡ byteAt t p → k ≡ countAt (t .count) p → shown b k ≡ eightAt t p
 tells t p g e f = ap₂ shown e f ∙ sym (accepts t p g)
 
-pub every-read : (t : Packed) (p : ℕ) → Good t → Reads t p
+pub every-read : (t : Packed) (p : ℕ) → Good t → ReadAt t p
 every-read t p g =
     record {
       accepted = accepts t p g;
@@ -55,7 +55,7 @@ unfolding eightAt
 from-answer t p b c e = go (ltb (2 ^ 30) (t .count)) refl (ltb (length (t .bytes)) (bytesFor (t .count))) refl e
   where
     go : (x : Bool) → ltb (2 ^ 30) (t .count) ≡ x → (y : Bool) → ltb (length (t .bytes)) (bytesFor (t .count)) ≡ y
-        → cond x (number 1) (cond y (number 2) (shown (byteAt t p) (countAt (t .count) p))) ≡ shown b c → Told t p b c
+        → cond x (number 1) (cond y (number 2) (shown (byteAt t p) (countAt (t .count) p))) ≡ shown b c → Learned t p b c
     go true ex y ey q = absurd (let same : 2 ≡ 0 = ap code q in omega arith)
     go false ex true ey q = absurd (let same : 3 ≡ 0 = ap code q in omega arith)
     go false ex false ey q =

@@ -13,7 +13,7 @@ pub record Good (t : Packed) : Type 0 where
   pub enough : bytesFor (t .count) ≤ length (t .bytes)
 
 -- Of a good recording, at any bit number.
-pub record Reads (t : Packed) (p : ℕ) : Type 0 where
+pub record ReadAt (t : Packed) (p : ℕ) : Type 0 where
   -- the call is accepted
   pub accepted : eightAt t p ≡ shown (byteAt t p) (countAt (t .count) p)
   -- each bit of the byte is what it is defined to be
@@ -29,7 +29,7 @@ pub record Reads (t : Packed) (p : ℕ) : Type 0 where
 
 -- What an accepted call tells its caller, whatever the recording: "Callers that relied on all eight being inside must show it
 -- from the count".
-pub record Told (t : Packed) (p byte count : ℕ) : Type 0 where
+pub record Learned (t : Packed) (p byte count : ℕ) : Type 0 where
   pub good : Good t
   pub byte-is : byte ≡ byteAt t p
   pub count-is : count ≡ countAt (t .count) p
@@ -37,7 +37,7 @@ pub record Told (t : Packed) (p byte count : ℕ) : Type 0 where
   pub eight : count ≡ 8 → byte ≡ bitsAt (t .bytes) p 8
 
 abbrev pub FromAnswer : Type 0
-FromAnswer = (t : Packed) (p byte count : ℕ) → eightAt t p ≡ shown byte count → Told t p byte count
+FromAnswer = (t : Packed) (p byte count : ℕ) → eightAt t p ≡ shown byte count → Learned t p byte count
 
 -- A refusal has the number 1 or 2, whatever the recording.
 abbrev pub OneOrTwo : Type 0
