@@ -1,5 +1,7 @@
 // Reading bits of a packed run: the two units of position, one bit, and loads of up to 64 bits for the matchers. The
 // definitions that the contracts cite are in specs/Packed.antt.
+#![tactic(auto)]
+
 ghost use Rattle.std.specs.Prelude.{◌≡◌, ◌+◌, ◌*◌, ◌/◌, ◌%◌, ◌^◌, ◌≤◌, ◌<◌};
 ghost use Rattle.bits.specs.Packed.{bytes_for};
 
@@ -7,11 +9,11 @@ pub mod bit;
 pub mod load;
 
 // A bit number, counted from 0. Document 01's own word for it is "place".
-#[derive(Drop)]
+#[derive(Clone, Copy)]
 pub struct Place(pub u32);
 
 // A byte number, counted from 0.
-#[derive(Drop)]
+#[derive(Clone, Copy)]
 pub struct ByteNo(pub usize);
 
 impl Place {

@@ -172,7 +172,7 @@ same t w [] s m =
       places = refl;
       steps = refl;
       stop = refl;
-      each_is = λ c i. absurd (Memᴰ.not_nil i);
+      each_is = λ c i. absurd (Memᴰ.not-nil i);
     }
 same t w (c ∷ cs) s m = go (same t w cs) (each t w s c m.0)
   where

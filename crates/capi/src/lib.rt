@@ -1,6 +1,8 @@
 // The library's calls on numbers and slices, for C and for Rust: a slice is a pointer and then a length there
 // (include/mitongory.h). Each call takes any input and returns 0, or the number of a refusal. An accepted call stores what it
 // tells to the front of `answer`; a refused one changes nothing. What each call promises is in specs/.
+#![tactic(auto)]
+
 mod cells;
 mod eight_bits;
 mod lists;

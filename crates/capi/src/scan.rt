@@ -12,7 +12,7 @@ use search::scratch_cells::CellsAnswer;
 use search::{Mark, Method, Outcome, Stop, hash_value, scratch_cells};
 
 // The method that a number names.
-#[derive(Drop)]
+#[derive(Clone, Copy)]
 enum Named {
     Known(Method),
     Unknown,

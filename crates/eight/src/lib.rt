@@ -1,5 +1,7 @@
 // Eight bits from a bit number, by themselves, on any input. Near the end of the text the answer says how many of them lie
 // before n, and the others are 0, so that padding is never taken for a part of the text.
+#![tactic(auto)]
+
 ghost use Rattle.std.specs.Prelude.{◌≡◌, ◌+◌, ◌-◌, ◌*◌, ◌^◌, ◌≤◌, ◌<◌, length};
 ghost use Rattle.bits.specs.Packed.{bits_at};
 ghost use Rattle.eight.specs.Eight.{number_of, verdict_of, eight_at};
@@ -7,7 +9,7 @@ ghost use Rattle.eight.specs.Eight.{number_of, verdict_of, eight_at};
 use bits::Place;
 
 // Why eight bits are refused.
-#[derive(Drop)]
+#[derive(Clone, Copy)]
 pub enum Refusal {
     // The bit count is above 2^30.
     TextTooLong,
@@ -28,13 +30,13 @@ impl Refusal {
 }
 
 // The bits of the text, from the left of the byte, and how many there are; after them the byte has zeros.
-#[derive(Drop)]
+#[derive(Clone, Copy)]
 pub struct Shown {
     pub byte: u8,
     pub count: u32,
 }
 
-#[derive(Drop)]
+#[derive(Clone, Copy)]
 pub enum Eight {
     Accepted(Shown),
     Refused(Refusal),

@@ -1,5 +1,7 @@
 // The steps of the hash method. The value B at a mark is the last eight bits of the window there, and cell B of the table,
 // which `hash_tables` makes, holds the move to the next mark. A mark's place is found just if the pattern stands there.
+#![tactic(auto)]
+
 ghost use Rattle.std.specs.Prelude.{◌≡◌, ◌≤◌, ◌<◌, length};
 ghost use Rattle.rules.specs.Occurrence.{places};
 ghost use Rattle.rules.specs.Step.{next};

@@ -1,5 +1,7 @@
 // The tables of the hash method. A value B is eight bits of the text, and cell B holds the move after it: the least d in 1..m
 // that meets the condition. The module `value` finds H(B) by itself.
+#![tactic(auto)]
+
 pub mod value;
 
 ghost use Rattle.std.specs.Prelude.{◌≡◌, ◌+◌, ◌-◌, ◌*◌, ◌/◌, ◌^◌, ◌≤◌, ◌<◌, length, get_or};

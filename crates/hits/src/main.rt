@@ -1,5 +1,7 @@
 // Program `hits`: reads a pattern and a text as two lines of characters 0 and 1, and prints a line for each of the five
 // methods. `report` is equated with what is printed for each input; `main` reads, calls it and writes.
+#![tactic(auto)]
+
 mod report;
 
 use libc::{STDIN_FILENO, STDOUT_FILENO};

@@ -30,7 +30,7 @@ const WIDE: [u8; 5] = *b"wide ";
 const TAIL: [u8; 5] = *b"tail ";
 
 // Five bytes, and how many of them are the name.
-#[derive(Drop)]
+#[derive(Clone, Copy)]
 struct Name([u8; 5], usize);
 
 fn name_of(method: Method) -> Name

@@ -5,14 +5,14 @@ ghost use Rattle.lines.specs.Input.{parse as Input·parse};
 ghost use Rattle.lines.specs.Inner.{line_in, EndsIn, input_in, Sized};
 
 // The index of the byte 10 that ends a line, where nothing but characters 0 and 1 stands before it.
-#[derive(Drop)]
+#[derive(Clone, Copy)]
 enum LineEnd {
     At(usize),
     Missing,
 }
 
 // The lengths of the two lines, the pattern's and the text's.
-#[derive(Drop)]
+#[derive(Clone, Copy)]
 pub enum Input {
     Lines(usize, usize),
     Bad,

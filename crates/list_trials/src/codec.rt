@@ -13,7 +13,7 @@ const LIMIT: usize = 1073741824;
 pub(crate) const FILE: usize = 128;
 
 // What a case came to: a count, or a refusal's number above REFUSED; and whether that is right.
-#[derive(Drop)]
+#[derive(Clone, Copy)]
 pub(crate) struct Judged {
     pub good: bool,
     pub number: usize,
@@ -50,7 +50,7 @@ pub(crate) fn encode(list: &[u32], out: &mut [u8]) -> usize {
 }
 
 // A number on top of `base`, and the index after it; or its fault.
-#[derive(Drop)]
+#[derive(Clone, Copy)]
 struct Number {
     fault: usize,
     value: usize,

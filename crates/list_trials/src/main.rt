@@ -1,6 +1,8 @@
 // Program `list_trials`: drawn lists of positions and drawn files against a naive writer and reader, drawn sittings against
 // a naive marker, and named cases of both. It prints how many cases each kind has, each case that disagrees, and their
 // count.
+#![tactic(auto)]
+
 mod codec;
 mod files;
 mod marker;

@@ -5,7 +5,7 @@ use draws::number::{minus, plus, small};
 const LIMIT: u32 = 1073741824;
 
 // What a sheet comes to.
-#[derive(Drop)]
+#[derive(Clone, Copy)]
 pub(crate) struct Marks {
     pub right: usize,
     pub missed: usize,
@@ -13,7 +13,7 @@ pub(crate) struct Marks {
 }
 
 // What a sitting comes to: a refusal's number, or 0 and the totals; and whether that is right.
-#[derive(Drop)]
+#[derive(Clone, Copy)]
 pub(crate) struct Sitting {
     pub good: bool,
     pub refused: usize,

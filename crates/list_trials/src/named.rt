@@ -8,7 +8,7 @@ use draws::number::{plus, small};
 use draws::packed::{agree, part, put_digits};
 
 // A row of a table.
-#[derive(Drop)]
+#[derive(Clone, Copy)]
 struct Row(usize, usize, usize, usize, usize, usize, usize, usize);
 
 // The papers of the position list file, and the examples of rows 8 to 14: a list by its first position, how far apart the

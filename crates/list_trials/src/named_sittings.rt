@@ -8,7 +8,7 @@ use draws::cells::{get32, put32, put64};
 use draws::number::{minus, plus, small};
 
 // A row of the table.
-#[derive(Drop)]
+#[derive(Clone, Copy)]
 struct Row(
     usize,
     usize,

@@ -123,7 +123,7 @@ on_to_member p (q ∷ qs) h = go (eqb p q) refl (λ e. on_to_member p qs e)
 
 member_to_on : (p : ℕ) (l : List ℕ) → Memᴰ p l → on p l ≡ true
 unfolding on
-member_to_on p [] m = absurd (Memᴰ.not_nil m)
+member_to_on p [] m = absurd (Memᴰ.not-nil m)
 member_to_on p (q ∷ qs) m =
     elim (Memᴰ.cases_cons m) [
       | inl e ↦ rw (eq-eqb p q e)
@@ -164,7 +164,7 @@ member_keep false p q ps m = m
 module _ (f : ℕ → Bool) where
   filter_member : (q : ℕ) (ps : List ℕ) → Memᴰ q (filter f ps) → Memᴰ q ps × (f q ≡ true)
   unfolding filter
-  filter_member q [] m = absurd (Memᴰ.not_nil m)
+  filter_member q [] m = absurd (Memᴰ.not-nil m)
   filter_member q (p ∷ ps) m =
       elim (keep_member (f p) p q (filter f ps) m) [
         | inl t ↦ (Memᴰ.head t.0, rw t.0 t.1)
@@ -173,7 +173,7 @@ module _ (f : ℕ → Bool) where
 
   member_filter : (q : ℕ) (ps : List ℕ) → Memᴰ q ps → f q ≡ true → Memᴰ q (filter f ps)
   unfolding filter
-  member_filter q [] m h = absurd (Memᴰ.not_nil m)
+  member_filter q [] m h = absurd (Memᴰ.not-nil m)
   member_filter q (p ∷ ps) m h =
       elim (Memᴰ.cases_cons m) [
         | inl e ↦ rw (← e, h) (Memᴰ.head refl)

@@ -1,6 +1,8 @@
 // Marking a sitting: up to 256 sheets, each a rising list of positions, against one key. Nothing here knows of searching;
 // of lists it knows what "rising" means. The call judges its whole input before it stores anything, so a refusal leaves
 // the report as it was.
+#![tactic(auto)]
+
 mod judge;
 mod merge;
 mod report;
@@ -12,7 +14,7 @@ ghost use Rattle.marking.specs.Promise.{mark_refusal, MarksSitting};
 const SHEETS: usize = 256;
 
 // Why a sitting is not marked.
-#[derive(Drop)]
+#[derive(Clone, Copy)]
 pub enum MarkRefusal {
     // There are more than 256 sheets.
     TooManySheets,
@@ -40,7 +42,7 @@ impl MarkRefusal {
 
 // The columns of the report, added up over the sitting. What document 02 calls false are the false positives: the
 // positions that are on a sheet only.
-#[derive(Drop)]
+#[derive(Clone, Copy)]
 pub struct Totals {
     pub right: u64,
     pub missed: u64,
@@ -48,7 +50,7 @@ pub struct Totals {
 }
 
 // The answer to a sitting.
-#[derive(Drop)]
+#[derive(Clone, Copy)]
 pub enum Marked {
     Accepted(Totals),
     Refused(MarkRefusal),

@@ -13,7 +13,7 @@ const FEW: usize = 8;
 const MANY: usize = 16;
 
 // The indices that a part of the merge reached, how many shared positions it passed, and how many steps to make next.
-#[derive(Drop)]
+#[derive(Clone, Copy)]
 struct Met {
     key: usize,
     sheet: usize,

@@ -9,7 +9,7 @@ ghost use Rattle.marking.specs.Inner.{Sheet};
 use crate::{Totals, merge};
 
 // What one sheet comes to.
-#[derive(Drop)]
+#[derive(Clone, Copy)]
 pub(crate) struct SheetMarks {
     pub right: u32,
     pub missed: u32,

@@ -13,7 +13,7 @@ const ALL: u64 = 18446744073709551615;
 // What the steps of a search know beside the bytes: the bit counts of text and pattern, and the pattern's head. That is the
 // first 57 bits, or all of a shorter pattern, at the left of a word: `mask` has a 1 for each of them that is fixed, and
 // `head` its value there.
-#[derive(Drop)]
+#[derive(Clone, Copy)]
 pub struct Known {
     pub n: u32,
     pub m: u32,

@@ -1,6 +1,8 @@
 // What the methods share: the comparison at a place, words for wild bits, and what their steps give back. A method is a
 // crate of its own with three functions: `prepare` makes its tables, `step` makes one step from any mark, `advance` makes
 // many.
+#![tactic(auto)]
+
 pub mod compare;
 pub mod wild;
 
@@ -10,7 +12,7 @@ use bits::Place;
 
 // What one step leaves: the next mark, how many cells of the list are written, and whether a place found none; the mark is
 // then that place.
-#[derive(Drop)]
+#[derive(Clone, Copy)]
 pub struct Found {
     pub at: Place,
     pub hits: usize,
@@ -19,7 +21,7 @@ pub struct Found {
 
 // What steps made one after the other leave: the same, and how many they are. A step is counted when it is complete: one
 // that finds a place without a cell is not.
-#[derive(Drop)]
+#[derive(Clone, Copy)]
 pub struct Advance {
     pub at: Place,
     pub steps: u32,

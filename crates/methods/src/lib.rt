@@ -1,5 +1,7 @@
 // The five methods under one small interface, chosen by `Method`: make the tables, make one step from any
 // mark, make many.
+#![tactic(auto)]
+
 ghost use Rattle.std.specs.Prelude.{◌≤◌, ◌<◌, length};
 ghost use Rattle.rules.specs.Occurrence.{places};
 ghost use Rattle.rules.specs.Scratch.{scratch_cells};

@@ -1,5 +1,7 @@
 // The plain method: every place, by shifted rows. A cell holds eight row bytes: cell 16 k + i is bits 64 k .. 64 k + 63 of
 // row i, and cell 16 k + 8 + i the same of its mask.
+#![tactic(auto)]
+
 ghost use Rattle.std.specs.Prelude.{◌≡◌, true, false, cond, ◌↔◌, ℕ, ◌+◌, ◌-◌, ◌*◌, ◌^◌, ◌≤◌, ◌<◌, min, ltb, eqb, length, get_or};
 ghost use Rattle.std.specs.Int.Bits.{bit_and};
 ghost use Rattle.bits.specs.Packed.{bit_of};

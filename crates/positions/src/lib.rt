@@ -1,6 +1,8 @@
 // The position list file: a writer from a list of positions to bytes, a reader back, and the byte count that a list
 // needs. Nothing here knows of searching. Each call judges its whole input before it stores anything, so a refusal
 // leaves every buffer as it was.
+#![tactic(auto)]
+
 mod number;
 mod reader;
 mod writer;
@@ -15,7 +17,7 @@ pub use writer::{rises, size, write};
 const LIMIT: u32 = 1073741824;
 
 // Why a list is not written.
-#[derive(Drop)]
+#[derive(Clone, Copy)]
 pub enum WriteRefusal {
     // The positions do not rise strictly, or one is 2^30 or more.
     ListNotRising,
@@ -36,7 +38,7 @@ impl WriteRefusal {
 }
 
 // The writer's answer.
-#[derive(Drop)]
+#[derive(Clone, Copy)]
 pub enum Written {
     // How many bytes of the target were written.
     Bytes(usize),
@@ -44,14 +46,14 @@ pub enum Written {
 }
 
 // The answer to how many bytes a list needs.
-#[derive(Drop)]
+#[derive(Clone, Copy)]
 pub enum ByteCount {
     Bytes(usize),
     Refused(WriteRefusal),
 }
 
 // Why a file is not read.
-#[derive(Drop)]
+#[derive(Clone, Copy)]
 pub enum ReadRefusal {
     // The file ends early.
     FileEndsEarly,
@@ -81,7 +83,7 @@ impl ReadRefusal {
 }
 
 // The reader's answer.
-#[derive(Drop)]
+#[derive(Clone, Copy)]
 pub enum ReadAnswer {
     // How many cells were written: the list's count.
     Count(usize),

@@ -11,7 +11,7 @@ use crate::ReadRefusal;
 const LARGEST: u64 = 1073741824;
 
 // What reading at an index of the file finds: a number with the index after it, or its fault.
-#[derive(Drop)]
+#[derive(Clone, Copy)]
 pub(crate) enum Reading {
     Number(u32, usize),
     Refused(ReadRefusal),

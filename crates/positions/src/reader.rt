@@ -31,7 +31,7 @@ fn position(file: &[u8], at: usize, next: u32) -> Reading
 }
 
 // Where the positions of a file end: the index after the last one, or their first fault.
-#[derive(Drop)]
+#[derive(Clone, Copy)]
 enum End {
     At(usize),
     Refused(ReadRefusal),

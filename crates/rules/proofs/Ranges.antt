@@ -132,7 +132,7 @@ keep_tail false i l p m = m
 
 pub among_mem : (f : ℕ → Bool) (i k p : ℕ) → Memᴰ p (among f i k) → Kept f i k p
 unfolding among
-among_mem f i zero p m = absurd (Memᴰ.not_nil m)
+among_mem f i zero p m = absurd (Memᴰ.not-nil m)
 among_mem f i (suc k) p m = go (λ t. among_mem f (suc i) k p t) (keep_mem (f i) i (among f (suc i) k) p m)
   where
     go : (Memᴰ p (among f (suc i) k) → Kept f (suc i) k p) → ((p ≡ i) × (f i ≡ true)) ⊎ Memᴰ p (among f (suc i) k)

@@ -1,11 +1,13 @@
 // The five ways to search for a pattern of bits in a packed text, as rules: what a step of each finds and how far it
 // moves, the machine that makes the steps, and how many cells the tables of each take. All of it is in specs/, and the
 // theorems about it are in proofs/; of code there is only what tells those cells.
+#![tactic(auto)]
+
 ghost use Rattle.std.specs.Prelude.{◌≡◌};
 ghost use Rattle.rules.specs.Scratch.{scratch_cells};
 
 // The five ways to the next mark.
-#[derive(Drop)]
+#[derive(Clone, Copy)]
 pub enum Method {
     Plain,
     Hash,

@@ -70,7 +70,7 @@ from t w (c ∷ cs) s h m =
 
 each_kept : (t : Packed) (w : Pattern) (calls : List Call) (s : ℕ) → Made t w s calls
     → (c : Call) → Memᴰ c calls → InBudget c.asked.budget (steps_of c.outcome) (stop_of c.outcome)
-each_kept t w [] s m c i = absurd (Memᴰ.not_nil i)
+each_kept t w [] s m c i = absurd (Memᴰ.not-nil i)
 each_kept t w (d ∷ ds) s m c i =
     each_of (λ c. InBudget c.asked.budget (steps_of c.outcome) (stop_of c.outcome)) d ds
     (kept (request_of t w s d.asked) d.outcome d.list_after d.scratch_after m.0)

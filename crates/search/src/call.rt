@@ -10,7 +10,7 @@ use matcher::compare;
 use matcher::compare::Known;
 
 // What the steps of a call leave: the mark, the steps made, the places written, and whether a place found no cell.
-#[derive(Drop)]
+#[derive(Clone, Copy)]
 pub struct Left {
     pub mark: Mark,
     pub steps: u32,

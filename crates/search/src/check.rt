@@ -8,7 +8,7 @@ use crate::{Method, Refusal};
 use bits::Place;
 
 // Whether a call is refused.
-#[derive(Drop)]
+#[derive(Clone, Copy)]
 pub enum Checked {
     Passed,
     Refused(Refusal),

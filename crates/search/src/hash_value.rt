@@ -7,7 +7,7 @@ ghost use Rattle.matcher.specs.Progress.{pattern_of};
 use crate::Refusal;
 use hash_tables::value;
 
-#[derive(Drop)]
+#[derive(Clone, Copy)]
 pub enum HashAnswer {
     Value(u32),
     Refused(Refusal),

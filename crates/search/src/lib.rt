@@ -1,5 +1,7 @@
 // Search for a pattern of bits in a packed text, in five ways. The types that a call takes and gives; what they mean is
 // in specs/, and the theorems about every list of calls are in proofs/.
+#![tactic(auto)]
+
 mod call;
 mod check;
 pub mod hash_value;
@@ -16,13 +18,13 @@ use matcher::compare::Known;
 pub use rules::Method;
 
 // How far a search has come: the first place that is not yet decided.
-#[derive(Drop)]
+#[derive(Clone, Copy)]
 pub struct Mark {
     pub at: Place,
 }
 
 // How an accepted call stopped. `Full` carries the occurrence that found no free cell.
-#[derive(Drop)]
+#[derive(Clone, Copy)]
 pub enum Stop {
     Done,
     Full(Place),
@@ -30,7 +32,7 @@ pub enum Stop {
 }
 
 // The answer of an accepted call.
-#[derive(Drop)]
+#[derive(Clone, Copy)]
 pub struct Answer {
     pub steps: u32,
     pub occurrences: u32,
@@ -39,7 +41,7 @@ pub struct Answer {
 }
 
 // Why a call was refused.
-#[derive(Drop)]
+#[derive(Clone, Copy)]
 pub enum Refusal {
     TextTooLong,
     TextBytesMissing,
@@ -70,7 +72,7 @@ impl Refusal {
 }
 
 // What a call gives back.
-#[derive(Drop)]
+#[derive(Clone, Copy)]
 pub enum Outcome {
     Accepted(Answer),
     Refused(Refusal),
@@ -78,7 +80,7 @@ pub enum Outcome {
 
 // What one step leaves: the advanced mark, and beside it how many cells of the list are written and whether a place
 // found none.
-#[derive(Drop)]
+#[derive(Clone, Copy)]
 pub struct Step {
     pub mark: Mark,
     pub hits: usize,

@@ -5,7 +5,7 @@ ghost use Rattle.search.specs.Scratch.{cells_answer};
 
 use crate::{Method, Refusal, check};
 
-#[derive(Drop)]
+#[derive(Clone, Copy)]
 pub enum CellsAnswer {
     Cells(u64),
     Refused(Refusal),

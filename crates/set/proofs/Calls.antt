@@ -68,7 +68,7 @@ from t ws (c ∷ cs) s h m =
 
 each_kept : (t : Packed) (ws : PatternSet) (calls : List Call) (s : ℕ) → Made t ws s calls
     → (c : Call) → Memᴰ c calls → InBudget c.asked.budget (steps_of c.outcome) (stop_of c.outcome)
-each_kept t ws [] s m c i = absurd (Memᴰ.not_nil i)
+each_kept t ws [] s m c i = absurd (Memᴰ.not-nil i)
 each_kept t ws (d ∷ ds) s m c i =
     each_of (λ c. InBudget c.asked.budget (steps_of c.outcome) (stop_of c.outcome)) d ds
     (kept (request_of t ws s d.asked) d.outcome d.list_after m.0)

@@ -13,7 +13,7 @@ use search::{Mark, Stop};
 use set_tables::{scan, tables};
 
 // What the steps of a call leave: the mark, the steps made, the pairs written, and whether a place's pairs found no room.
-#[derive(Drop)]
+#[derive(Clone, Copy)]
 pub struct Left {
     pub at: Place,
     pub steps: u32,
@@ -34,7 +34,7 @@ fn reach(s: Place, end: Place, budget: u32) -> Place
 }
 
 // What a block of places leaves: the same without the steps.
-#[derive(Drop)]
+#[derive(Clone, Copy)]
 struct Passage {
     pub at: Place,
     pub hits: usize,

@@ -12,7 +12,7 @@ use crate::step::Sure;
 use bits::{ByteNo, Place};
 
 // Whether a call is refused.
-#[derive(Drop)]
+#[derive(Clone, Copy)]
 pub enum Checked {
     Passed,
     Refused(Refusal),

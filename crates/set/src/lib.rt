@@ -5,6 +5,8 @@
 // goes by a place's first eight bits, table 1 by the next eight, and so on. Four loads and three `and` leave the flags of the
 // patterns whose first 32 bits agree with the text at a place; mostly no flag stands, and so no pattern does. Where flags
 // stand, those patterns have to fit, and the ones of more than 32 bits are compared by all of their bits.
+#![tactic(auto)]
+
 mod call;
 mod check;
 mod step;
@@ -18,7 +20,7 @@ use check::Checked;
 use search::{Mark, Stop};
 
 // The answer of an accepted call. The occurrences are pairs.
-#[derive(Drop)]
+#[derive(Clone, Copy)]
 pub struct Answer {
     pub steps: u32,
     pub occurrences: u64,
@@ -27,7 +29,7 @@ pub struct Answer {
 }
 
 // Why a call was refused.
-#[derive(Drop)]
+#[derive(Clone, Copy)]
 pub enum Refusal {
     TextTooLong,
     TextBytesMissing,
@@ -56,7 +58,7 @@ impl Refusal {
 }
 
 // What a call gives back.
-#[derive(Drop)]
+#[derive(Clone, Copy)]
 pub enum Outcome {
     Accepted(Answer),
     Refused(Refusal),

@@ -15,7 +15,7 @@ use matcher::compare::Known;
 
 // What the lengths of the patterns tell: before the place `until` every pattern fits, and a pattern without a flag in `long`
 // has at most the 32 bits that the tables compare.
-#[derive(Drop)]
+#[derive(Clone, Copy)]
 pub struct Sure {
     pub until: u32,
     pub long: u64,

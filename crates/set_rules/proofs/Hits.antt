@@ -36,7 +36,7 @@ largest_least f (suc k) b h = omega (arith, largest_least f k b (λ i l. h i (om
 -- ---- pairs of one place
 
 at_mem : (s : ℕ) (l : List ℕ) (h : Hit) → Memᴰ h (map (hit_at s) l) → (h.place ≡ s) × Memᴰ h.number l
-at_mem s [] h m = absurd (Memᴰ.not_nil m)
+at_mem s [] h m = absurd (Memᴰ.not-nil m)
 at_mem s (i ∷ l) h m = go (λ n. at_mem s l h n) (Memᴰ.cases_cons m)
   where
     go : (Memᴰ h (map (hit_at s) l) → (h.place ≡ s) × Memᴰ h.number l) → (h ≡ hit_at s i) ⊎ Memᴰ h (map (hit_at s) l)
@@ -45,7 +45,7 @@ at_mem s (i ∷ l) h m = go (λ n. at_mem s l h n) (Memᴰ.cases_cons m)
     go ih (inr n) = let r = ih n in (r.0, Memᴰ.tail r.1)
 
 mem_at : (s : ℕ) (l : List ℕ) (h : Hit) → h.place ≡ s → Memᴰ h.number l → Memᴰ h (map (hit_at s) l)
-mem_at s [] h e m = absurd (Memᴰ.not_nil m)
+mem_at s [] h e m = absurd (Memᴰ.not-nil m)
 mem_at s (i ∷ l) h e m = go (λ n. mem_at s l h e n) (Memᴰ.cases_cons m)
   where
     go : (Memᴰ h.number l → Memᴰ h (map (hit_at s) l)) → (h.number ≡ i) ⊎ Memᴰ h.number l
@@ -140,7 +140,7 @@ module _ (t : Packed) (ws : PatternSet) where
 
   mem_low : (s k : ℕ) (h : Hit) → Memᴰ h (hits_of t ws s k) → IsHit t ws h × (s ≤ h.place) × (h.place < s + k)
   unfolding hits_of
-  mem_low s zero h m = absurd (Memᴰ.not_nil m)
+  mem_low s zero h m = absurd (Memᴰ.not-nil m)
   mem_low s (suc k) h m = go (λ n. mem_low (suc s) k h n) (Memᴰ.append_cases (hits_at t ws s) m)
     where
       go : (Memᴰ h (hits_of t ws (suc s) k) → IsHit t ws h × (suc s ≤ h.place) × (h.place < suc s + k))

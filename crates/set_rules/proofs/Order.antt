@@ -63,7 +63,7 @@ record Without (x : ℕ) (l : List ℕ) : Type 0 where
   others : (y : ℕ) → Memᴰ y l → (x ≡ y → ⊥) → Memᴰ y rest
 
 without : (x : ℕ) (l : List ℕ) → Memᴰ x l → Without x l
-without x [] m = absurd (Memᴰ.not_nil m)
+without x [] m = absurd (Memᴰ.not-nil m)
 without x (a ∷ l) m = go (λ n. without x l n) (Memᴰ.cases_cons m)
   where
     go : (Memᴰ x l → Without x l) → (x ≡ a) ⊎ Memᴰ x l → Without x (a ∷ l)

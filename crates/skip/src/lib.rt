@@ -4,6 +4,8 @@
 //
 // After a step the mark is 8 b + 1: `step` makes one step from any mark, through links that keep to its places, and `advance`
 // many from such marks.
+#![tactic(auto)]
+
 ghost use Rattle.std.specs.Prelude.{◌≡◌, ◌+◌, ◌-◌, ◌*◌, ◌%◌, ◌≤◌, ◌<◌, length};
 ghost use Rattle.rules.specs.Occurrence.{places};
 ghost use Rattle.matcher.specs.Tables.{chained, ChainTables, WordTables};

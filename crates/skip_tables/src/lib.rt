@@ -7,6 +7,8 @@
 //
 // `prepare` makes the tables of the kind that fits the pattern. `first_links` and `next_links` ask tables of either kind for one
 // index after the other, for the places from any mark on; `flags` and `next_block` ask words for the flags of a block.
+#![tactic(auto)]
+
 ghost use Rattle.std.specs.Prelude.{◌≡◌, ◌++◌, ℕ, ◌+◌, ◌-◌, ◌*◌, ◌/◌, ◌^◌, ◌≤◌, ◌<◌, length, get_or, drop, replicate};
 ghost use Rattle.rules.specs.Wild.{AllFixed};
 ghost use Rattle.skip_tables.specs.SkipChains.{Filled, last_shown, Flags, Flagging, NextBlock, Walking};
@@ -114,7 +116,7 @@ pub fn prepare(pattern: &[u8], fixed: &[u8], m: u32, cells: &mut [u64])
 }
 
 // Where a walk over the indices that show a byte has come to: the link to try, and by words the flags left of its block.
-#[derive(Drop)]
+#[derive(Clone, Copy)]
 pub struct Links {
     pub first: u64,
     block: u32,
@@ -175,7 +177,7 @@ pub fn flags(pattern: &[u8], fixed: &[u8], m: u32, cells: &[u64], v: u8, c: u32)
 }
 
 // A block of 57 moves: its number, the first of its moves, and those of its flags that are left.
-#[derive(Drop)]
+#[derive(Clone, Copy)]
 pub struct Block {
     pub number: u32,
     pub far: u32,

@@ -15,6 +15,8 @@
 // Cell 0 of the table is the mask for text bits of 0, cell 1 that for text bits of 1: bit j from the left is 1 where the
 // pattern has that bit at index j, or a wild one. Both are 1 just at its wild bits. A wild bit rules no length out: the run
 // that decides lengths ends before it, and the eight bits are twice four in a row without one.
+#![tactic(auto)]
+
 ghost use Rattle.std.specs.Prelude.{◌≡◌, ◌≤◌, ◌<◌, length};
 ghost use Rattle.bits.specs.Packed.{bits_at};
 ghost use Rattle.rules.specs.Occurrence.{places};
@@ -85,7 +87,7 @@ fn every_bit(word: u64, j: u32) -> u64
 // What the steps of a call share: the pattern's bit count and its masks; a 0 for each of its wild bits in `care`; a 1 for each
 // length below the bit count in `below`; its first bit, in every bit of `flip`; a 1 for each length above its first run in
 // `past`; and eight of its bits, four from bit `from` on and four from bit `other` on, each spread over a word.
-#[derive(Drop)]
+#[derive(Clone, Copy)]
 struct Masks {
     m: u32,
     zeros: u64,

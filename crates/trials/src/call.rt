@@ -18,7 +18,7 @@ pub(crate) const GUARD: usize = 5;
 
 // What a call is given: n bits of text in `text` bytes, m bits of pattern in `pattern` bytes and of its second run in
 // `fixed` bytes, the method by its number, mark and budget, and how many cells of the list and of the scratch are lent.
-#[derive(Drop)]
+#[derive(Clone, Copy)]
 pub(crate) struct Call {
     pub n: usize,
     pub text: usize,

@@ -60,7 +60,7 @@ fn next_call(c: Call, wild: usize, x: usize, left: usize) -> Call {
 
 // What the calls of a list come to: occurrences written, steps, the last mark, how the last accepted call stopped, which is
 // 3 where none was accepted, and whether each did what it is to do.
-#[derive(Drop)]
+#[derive(Clone, Copy)]
 struct Total {
     hits: usize,
     steps: usize,

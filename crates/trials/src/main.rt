@@ -1,5 +1,7 @@
 // Program `trials`: drawn calls of every kind against a naive search, and the named cases of documents 01 and 02. It
 // prints how many cases each kind has, each case that disagrees, and their count.
+#![tactic(auto)]
+
 mod call;
 mod calls;
 mod drawn;

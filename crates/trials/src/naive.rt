@@ -7,7 +7,7 @@ use draws::packed::{FIXED_BIT, TEXT_BIT, bit};
 
 // What a call comes to: the number of its refusal, or 0; steps, occurrences written and the mark; and how it stopped: 0
 // done, 1 full, 2 spent.
-#[derive(Drop)]
+#[derive(Clone, Copy)]
 pub(crate) struct Run {
     pub refusal: usize,
     pub steps: usize,

@@ -8,7 +8,7 @@ use draws::packed::{TEXT_BIT, bit};
 
 // What a call comes to: the number of its refusal, or 0; steps, pairs written and the mark; and how it stopped: 0 done, 1
 // full, 2 spent. And whether the list that was shown holds the pairs that are to be written.
-#[derive(Drop)]
+#[derive(Clone, Copy)]
 pub(crate) struct SetRun {
     pub refusal: usize,
     pub steps: usize,
@@ -19,7 +19,7 @@ pub(crate) struct SetRun {
 }
 
 // The patterns of a place: how many stand there, and whether the list holds their pairs.
-#[derive(Drop)]
+#[derive(Clone, Copy)]
 struct Found {
     count: usize,
     good: bool,

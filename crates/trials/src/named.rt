@@ -9,11 +9,11 @@ use draws::number::{minus, small};
 use draws::packed::{BYTES, FIXED, TEXT, TEXT_BIT, put_digits};
 
 // A text, a pattern with its second run, and its occurrences.
-#[derive(Drop)]
+#[derive(Clone, Copy)]
 struct Pair(usize, usize, usize, usize, usize, usize);
 
 // A row of a table.
-#[derive(Drop)]
+#[derive(Clone, Copy)]
 struct Row(
     usize,
     usize,

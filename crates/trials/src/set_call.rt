@@ -29,7 +29,7 @@ pub(crate) const CELLS: usize = 4400;
 
 // What a call is given: n bits of text in `text` bytes, so many patterns in `patterns` bytes and their second runs in
 // `fixed` bytes, mark and budget, and how many cells of the list are lent.
-#[derive(Drop)]
+#[derive(Clone, Copy)]
 pub(crate) struct SetCall {
     pub n: usize,
     pub text: usize,

@@ -213,7 +213,7 @@ fn drawn_room(c: SetCall, x: usize, s: &[u8], counts: &[u64], list: &[u32]) -> u
 
 // What the calls of a list come to: pairs written, steps, the last mark, how the last accepted call stopped, which is 3 where
 // none was accepted, and whether each did what it is to do.
-#[derive(Drop)]
+#[derive(Clone, Copy)]
 struct Total {
     pairs: usize,
     steps: usize,

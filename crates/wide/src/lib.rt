@@ -3,6 +3,8 @@
 // another one; cell 2 q + c of the table holds the flags that it leaves standing if it is c. Cells may be ANDed in any
 // order, and few window bits leave few flags: those are settled by comparison, lowest first. The bit after the window tells
 // how far the next mark lies ahead: where the last index of the pattern that agrees with that bit lies on it.
+#![tactic(auto)]
+
 ghost use Rattle.std.specs.Prelude.{◌≡◌, ◌+◌, ◌*◌, ◌^◌, ◌≤◌, ◌<◌, length};
 ghost use Rattle.bits.specs.Packed.{bytes_for};
 ghost use Rattle.rules.specs.Occurrence.{places};
@@ -21,7 +23,7 @@ use rules::Method;
 const ALL: u64 = 18446744073709551615;
 
 // Two numbers: one for window bits that are 0, and one for those that are 1.
-#[derive(Drop)]
+#[derive(Clone, Copy)]
 struct Pair {
     zero: u64,
     one: u64,

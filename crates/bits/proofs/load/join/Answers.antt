@@ -7,13 +7,12 @@ use lib.Dec.{lit≤}
 use lib.Pow.{shl_exact}
 use Rattle.bits.specs.Packed.{bits_at}
 use Rattle.bits.proofs.Loads.{byte_bits, join_byte, join_last}
-use Rattle.bits.proofs.load.join.Statement.{statement}
-use Rattle.bits.proofs.load.join.Tie as tie
+use Rattle.bits.proofs.load.join.Goals as goal
 
 first : (xs : List ℕ) (b : ℕ) → b < 256 → (b * 2 ^ 56) % 2 ^ 64 ≡ bits_at (b ∷ xs) 0 8 * 2 ^ 56
 first xs b h = shl_exact 8 56 64 h (lit≤ tt) ∙ ap (λ (x : ℕ). x * 2 ^ 56) (sym (byte_bits (b ∷ xs) 0 h))
 
-returns : tie.Need-returns
+pub returns : goal.returns
 returns c =
     let a = c.args in
     let h = c.ranges in
@@ -25,6 +24,3 @@ returns c =
     let s5 = join_byte xs 5 16 refl h.f.fits (lit≤ tt) s4 in
     let s6 = join_byte xs 6 8 refl h.g.fits (lit≤ tt) s5 in
     join_last xs 7 refl h.h.fits s6
-
-pub join-spec : {M : Type 1} → statement M
-join-spec = tie.close (tie.spec returns)
