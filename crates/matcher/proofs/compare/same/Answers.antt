@@ -1,24 +1,21 @@
 -- `matcher::compare::same` meets its contract: the first load rules most places out, and `stands` settles the others.
 -- Assumes nothing.
 use mathlib.Core.Path.{◌≡◌, sym, ◌∙◌, ap}
-use mathlib.Core.Bool.{Bool, true, false}
+use mathlib.Core.Bool.{true, false}
 use mathlib.Core.List.{List}
 use Prim.Native.Nat.{ℕ, ◌+◌, ◌-◌, ◌/◌, ◌^◌, ◌≤◌, ◌<◌, min}
 use native.Mathlib.Omega.{arith}
 use lib.Bits.{bit_and}
-use lib.Dec.{eqb}
 use borrow.Author.Tests.{eqb-true, eq-eqb}
 use Rattle.bits.specs.Packed.{bit_at, bit_of, bits_at, weight}
 use Rattle.bits.proofs.Run.{bit_of_bits}
 use Rattle.bits.proofs.Weight.{weight_shr}
-use Rattle.rules.specs.Pattern.{Pattern, agrees}
+use Rattle.rules.specs.Pattern.{Pattern}
 use Rattle.rules.specs.Occurrence.{matches}
 use Rattle.rules.proofs.Ranges.{every_at, to_every, not_true_false}
 use Rattle.rules.proofs.Occurrence.{matches_at, to_matches}
 use Rattle.matcher.specs.Progress.{text_of, HeadOf}
-use borrow.Author.Rules.{rules}
-use Rattle.matcher.proofs.compare.same.Statement.{statement}
-use Rattle.matcher.proofs.compare.same.Tie as tie
+use Rattle.matcher.proofs.compare.same.Goals as goal
 
 -- what the first load shows of the text
 head-bit : (bytes : List ℕ) (p x j : ℕ) → x / 2 ^ 7 ≡ bits_at bytes p 57 → j < 57 → bit_of 64 x j ≡ bit_at bytes (p + j)
@@ -41,32 +38,16 @@ module _ (bytes : List ℕ) (w : Pattern) (s x head mask : ℕ) (is : HeadOf w h
   head-decides few same = sym (to_matches (text_of bytes 0) w s (λ j l.
       rw (head-bit bytes s x j e (omega arith)) at (every_at (min w.count 57) _ (sym (is x) ∙ eq-eqb _ _ same) j (omega arith))))
 
-byte-requires : tie.Need-byte-requires
-byte-requires c κs = search rules
+pub overflow_add-byte : goal.overflow_add-byte
+overflow_add-byte c = omega (arith, c.byte.ensures)
 
-add-if1 : tie.Need-overflow-add-if1
-add-if1 c = omega (arith, c.before.byte.ensures)
+pub head_inside-requires : goal.head_inside-requires
+head_inside-requires c = rw c.byte.ensures at c.if-byte-text.true
 
-head-inside-requires : tie.Need-head-inside-requires
-head-inside-requires c κs = rw c.before.before.byte.ensures at c.if1.true
+pub returns-then-head_inside-known : goal.returns-then-head_inside-known
+returns-then-head_inside-known c =
+    head-differs _ _ _ _ _ _ c.requires.head_of c.head_inside.ensures c.if-head_inside-known.true
 
-returns : tie.Need-returns
-returns c =
-    let s = c.before.before.before.before.before.before.before.before.before.before in
-    head-differs _ _ _ _ _ _ s.requires.1 c.before.before.before.head-inside.ensures c.if2.true
-
-returns-2 : tie.Need-returns-2
-returns-2 c =
-    let s = c.before.before.before.before.before.before.before.before.before.before.before.before in
-    head-decides _ _ _ _ _ _ s.requires.1 c.before.before.before.before.before.head-inside.ensures c.if3.true c.before.before.if2.false
-
-rest-requires : tie.Need-rest-requires
-rest-requires c κs = search rules
-
-returns-3 : tie.Need-returns-3
-returns-3 c = search rules
-
-pub same_spec : {M : Type 1} → statement M
-same_spec =
-    tie.close
-    (tie.spec byte-requires add-if1 head-inside-requires returns returns-2 rest-requires returns-3)
+pub returns-then-known-le57 : goal.returns-then-known-le57
+returns-then-known-le57 c =
+    head-decides _ _ _ _ _ _ c.requires.head_of c.head_inside.ensures c.if-known-le57.true c.if-head_inside-known.false

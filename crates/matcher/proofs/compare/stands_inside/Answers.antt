@@ -1,0 +1,83 @@
+use mathlib.Core.Path.{◌≡◌}
+use Prim.Native.Nat.{◌+◌, ◌-◌, ◌*◌}
+use native.Mathlib.Omega.{arith}
+use Rattle.matcher.proofs.Chunks.{none_passed, next_differs, next_agrees, last_decides}
+use Rattle.matcher.proofs.compare.stands_inside.Goals as goal
+
+pub bytes_for-requires : goal.bytes_for-requires
+bytes_for-requires c = omega arith
+
+pub overflow_sub-last : goal.overflow_sub-last
+overflow_sub-last c = omega arith
+
+pub loop-b-init : goal.loop-b-init
+loop-b-init c = (none_passed _ _ _ _ _ (omega arith), omega arith)
+
+pub place-requires : goal.place-requires
+place-requires c = omega arith
+
+pub overflow_add-at : goal.overflow_add-at
+overflow_add-at c = omega arith
+
+pub word_inside-x-requires : goal.word_inside-x-requires
+word_inside-x-requires c = omega arith
+
+pub eight_bytes-requires : goal.eight_bytes-requires
+eight_bytes-requires c = omega arith
+
+pub eight_bytes-requires-in-loop-b : goal.eight_bytes-requires-in-loop-b
+eight_bytes-requires-in-loop-b c = omega arith
+
+pub same_where-requires : goal.same_where-requires
+same_where-requires c = omega arith
+
+pub returns-then-not-same_where : goal.returns-then-not-same_where
+returns-then-not-same_where c =
+    next_differs _ _ _ _ _ (c.loop-b.b * 8) (omega arith) (rw c.place.ensures at c.word_inside-x.ensures)
+    c.eight_bytes.ensures c.eight_bytes-in-loop-b.ensures c.same_where.ensures c.if-not-same_where.true
+
+pub overflow_add-b : goal.overflow_add-b
+overflow_add-b c = omega arith
+
+pub loop-b-smaller : goal.loop-b-smaller
+loop-b-smaller c = omega arith
+
+pub loop-b-preserved : goal.loop-b-preserved
+loop-b-preserved c =
+    let l = c.loop-b in
+    let next : (l.b + 8) * 8 ≡ l.b * 8 + 64 = omega arith in (
+      rw next
+          (next_agrees _ _ _ _ _ (l.b * 8) (omega arith) (rw c.place.ensures at c.word_inside-x.ensures)
+          c.eight_bytes.ensures c.eight_bytes-in-loop-b.ensures c.same_where.ensures l.invariant.0 c.if-not-same_where.false),
+      omega arith,
+    )
+
+pub place-from-requires : goal.place-from-requires
+place-from-requires c = omega arith
+
+pub overflow_add-at-2 : goal.overflow_add-at-2
+overflow_add-at-2 c = omega arith
+
+pub word_inside-x-requires-2 : goal.word_inside-x-requires-2
+word_inside-x-requires-2 c = omega arith
+
+pub eight_bytes-requires-2 : goal.eight_bytes-requires-2
+eight_bytes-requires-2 c = omega arith
+
+pub eight_bytes-requires-3 : goal.eight_bytes-requires-3
+eight_bytes-requires-3 c = omega arith
+
+pub overflow_sub-m : goal.overflow_sub-m
+overflow_sub-m c = omega arith
+
+pub same_where-requires-2 : goal.same_where-requires-2
+same_where-requires-2 c = omega arith
+
+pub returns : goal.returns
+returns c =
+    let l = c.loop-b in
+    let from = c.place-from.result.0 in
+    let is = c.place-from.ensures in
+    let back : c.args.m - (c.args.m - from) ≡ from = omega arith in
+    last_decides _ _ _ _ _ (l.b * 8) (c.args.m - from) l.invariant.0 (omega arith) (omega arith) (omega arith)
+    (rw back c.word_inside-x-2.ensures) (rw (back, is) c.eight_bytes-2.ensures) (rw (back, is) c.eight_bytes-3.ensures) c.same_where-2.ensures

@@ -1,0 +1,50 @@
+use native.Mathlib.Omega.{arith}
+use Rattle.matcher.proofs.Chunks.{one_load, none_passed, next_differs, next_agrees, last_decides}
+use Rattle.matcher.proofs.compare.stands_near_end.Goals as goal
+
+pub returns-then-m-le64 : goal.returns-then-m-le64
+returns-then-m-le64 c =
+    one_load _ _ _ _ _ (omega arith) c.word_at.ensures c.word_at-then-m-le64.ensures
+    c.word_at-then-m-le64-2.ensures c.same_where.ensures
+
+pub loop-i-init : goal.loop-i-init
+loop-i-init c = none_passed _ _ _ _ _ (omega arith)
+
+pub overflow_add-i : goal.overflow_add-i
+overflow_add-i c = omega arith
+
+pub overflow_add-at : goal.overflow_add-at
+overflow_add-at c = omega arith
+
+pub returns-then-not-same_where : goal.returns-then-not-same_where
+returns-then-not-same_where c =
+    let l = c.loop-i in
+    next_differs _ _ _ _ _ l.i (omega arith) c.word_at-x.ensures c.word_at-in-loop-i.ensures
+    c.word_at-in-loop-i-2.ensures c.same_where-in-loop-i.ensures c.if-not-same_where.true
+
+pub overflow_add-i-in-loop-i : goal.overflow_add-i-in-loop-i
+overflow_add-i-in-loop-i c = omega arith
+
+pub loop-i-smaller : goal.loop-i-smaller
+loop-i-smaller c = omega arith
+
+pub loop-i-preserved : goal.loop-i-preserved
+loop-i-preserved c =
+    let l = c.loop-i in
+    next_agrees _ _ _ _ _ l.i (omega arith) c.word_at-x.ensures c.word_at-in-loop-i.ensures
+    c.word_at-in-loop-i-2.ensures c.same_where-in-loop-i.ensures l.invariant c.if-not-same_where.false
+
+pub overflow_sub-last : goal.overflow_sub-last
+overflow_sub-last c = omega arith
+
+pub overflow_sub-m : goal.overflow_sub-m
+overflow_sub-m c = omega arith
+
+pub overflow_add-at-2 : goal.overflow_add-at-2
+overflow_add-at-2 c = omega arith
+
+pub returns : goal.returns
+returns c =
+    let l = c.loop-i in
+    last_decides _ _ _ _ _ l.i 64 l.invariant (omega arith) (omega arith) (omega arith) c.word_at-x-2.ensures
+    c.word_at-2.ensures c.word_at-3.ensures c.same_where-2.ensures
