@@ -1,5 +1,6 @@
-use mathlib.Core.Path.{◌≡◌}
+use mathlib.Core.Path.{◌≡◌, ap}
 use Prim.Native.Nat.{◌+◌, ◌-◌, ◌*◌}
+use mathlib.Core.Bool.{not}
 use native.Mathlib.Omega.{arith}
 use Rattle.matcher.proofs.Chunks.{none_passed, next_differs, next_agrees, last_decides}
 use Rattle.matcher.proofs.compare.stands_inside.Goals as goal
@@ -34,7 +35,7 @@ same_where-requires c = omega arith
 pub returns-then-not-same_where : goal.returns-then-not-same_where
 returns-then-not-same_where c =
     next_differs _ _ _ _ _ (c.loop-b.b * 8) (omega arith) (rw c.place.ensures at c.word_inside-x.ensures)
-    c.eight_bytes.ensures c.eight_bytes-in-loop-b.ensures c.same_where.ensures c.if-not-same_where.true
+    c.eight_bytes.ensures c.eight_bytes-in-loop-b.ensures c.same_where.ensures (ap not c.if-not-same_where.true)
 
 pub overflow_add-b : goal.overflow_add-b
 overflow_add-b c = omega arith
@@ -48,7 +49,7 @@ loop-b-preserved c =
     let next : (l.b + 8) * 8 ≡ l.b * 8 + 64 = omega arith in (
       rw next
           (next_agrees _ _ _ _ _ (l.b * 8) (omega arith) (rw c.place.ensures at c.word_inside-x.ensures)
-          c.eight_bytes.ensures c.eight_bytes-in-loop-b.ensures c.same_where.ensures l.invariant.0 c.if-not-same_where.false),
+          c.eight_bytes.ensures c.eight_bytes-in-loop-b.ensures c.same_where.ensures l.invariant.0 (ap not c.if-not-same_where.false)),
       omega arith,
     )
 

@@ -1,3 +1,5 @@
+use mathlib.Core.Path.{ap}
+use mathlib.Core.Bool.{not}
 use native.Mathlib.Omega.{arith}
 use Rattle.matcher.proofs.Chunks.{one_load, none_passed, next_differs, next_agrees, last_decides}
 use Rattle.matcher.proofs.compare.stands_near_end.Goals as goal
@@ -20,7 +22,7 @@ pub returns-then-not-same_where : goal.returns-then-not-same_where
 returns-then-not-same_where c =
     let l = c.loop-i in
     next_differs _ _ _ _ _ l.i (omega arith) c.word_at-x.ensures c.word_at-in-loop-i.ensures
-    c.word_at-in-loop-i-2.ensures c.same_where-in-loop-i.ensures c.if-not-same_where.true
+    c.word_at-in-loop-i-2.ensures c.same_where-in-loop-i.ensures (ap not c.if-not-same_where.true)
 
 pub overflow_add-i-in-loop-i : goal.overflow_add-i-in-loop-i
 overflow_add-i-in-loop-i c = omega arith
@@ -32,7 +34,7 @@ pub loop-i-preserved : goal.loop-i-preserved
 loop-i-preserved c =
     let l = c.loop-i in
     next_agrees _ _ _ _ _ l.i (omega arith) c.word_at-x.ensures c.word_at-in-loop-i.ensures
-    c.word_at-in-loop-i-2.ensures c.same_where-in-loop-i.ensures l.invariant c.if-not-same_where.false
+    c.word_at-in-loop-i-2.ensures c.same_where-in-loop-i.ensures l.invariant (ap not c.if-not-same_where.false)
 
 pub overflow_sub-last : goal.overflow_sub-last
 overflow_sub-last c = omega arith
