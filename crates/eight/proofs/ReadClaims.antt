@@ -3,16 +3,16 @@
 use mathlib.Core.Path.{◌≡◌, refl, sym, ◌∙◌, ap, ap₂}
 use mathlib.Core.Bool.{Bool, true, false, cond}
 use mathlib.Core.Logic.{◌⊎◌, inl, inr}
-use mathlib.Core.List.{List, [], ◌∷◌, ◌++◌}
+use mathlib.Core.List.{List, ◌∷◌, ◌++◌}
 use Prim.Native.Nat.{ℕ, zero, suc, ◌+◌, ◌-◌, ◌*◌, ◌^◌, ◌≤◌, ◌<◌, min}
 use native.Mathlib.Omega.{arith}
 use native.Mathlib.Decide.{dec_le}
 use borrow.Author.Tests.{lt-ltb, le-ltb, ltb-false}
 use lib.Dec.{ltb}
 use lib.ListN.{length}
-use Rattle.bits.specs.Packed.{Packed, bytes_for, bit_of, bit_at, bits_at}
+use Rattle.bits.specs.Packed.{Packed, bytes_for, bit_of, bit_at}
 use Rattle.bits.proofs.Run.{bit_of_bits}
-use Rattle.eight.specs.Eight.{Verdict, shown, number, count_at, shown_at, byte_at, eight_at}
+use Rattle.eight.specs.Eight.{Verdict, shown, number, count_at, byte_at, eight_at}
 use Rattle.eight.specs.Claims.{Good, ReadAt, Learned, FromAnswer, OneOrTwo, NoPadding, list_of, taken, reads, GivenBack}
 use Rattle.eight.proofs.ShownByte.{byte_bit, byte_none, byte_inside, byte_same}
 

@@ -1,6 +1,6 @@
 -- Laws of agreement with the pattern: whoever has to know what it is uses these and not its text.
 use Prim.Native.Nat.{ℕ, ◌-◌, ◌<◌, max}
-use mathlib.Core.Path.{◌≡◌, refl, sym, ap, ◌∙◌}
+use mathlib.Core.Path.{◌≡◌, refl, sym, ◌∙◌}
 use mathlib.Core.Logic.{◌↔◌, ◌⊎◌, inl, inr, ⊎_elim}
 use mathlib.Core.Bool.{Bool, true, false, true≢false, cond}
 use native.Mathlib.Omega.{arith}
@@ -10,7 +10,7 @@ use Rattle.bits.specs.Packed.{bit_at}
 use Rattle.bits.proofs.Weight.{bit_or_bit}
 use Rattle.bits.proofs.Run.{bit_lt}
 use Rattle.rules.specs.Pattern.{Pattern, is_fixed, agrees}
-use Rattle.rules.proofs.Ranges.{split, not_true_false, implies_to, to_implies}
+use Rattle.rules.proofs.Ranges.{not_true_false, implies_to, to_implies}
 
 -- a bit is fixed just if the second run has a 1 there
 pub fixed_iff : (w : Pattern) (j : ℕ) → (is_fixed w j ≡ true) ↔ (bit_at w.fixed j ≡ 1)
