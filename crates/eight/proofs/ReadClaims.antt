@@ -26,6 +26,23 @@ accepts t p g = rw (le-ltb _ _ g.short, le-ltb _ _ g.enough)
 pub tells : (t : Packed) (p : ℕ) {b k : ℕ} → Good t → b ≡ byte_at t p → k ≡ count_at t.count p → shown b k ≡ eight_at t p
 tells t p g e f = ap₂ shown e f ∙ sym (accepts t p g)
 
+-- each refusal, and a place that has nothing to show, by the tests that a caller makes
+pub refused_long : (bytes : List ℕ) (n p : ℕ) → 2 ^ 30 < n → number 1 ≡ eight_at (record { bytes = bytes; count = n }) p
+unfolding eight_at
+refused_long bytes n p h = simp (lt-ltb (2 ^ 30) n h)
+
+pub refused_short : (bytes : List ℕ) (n p : ℕ) → n ≤ 2 ^ 30 → length bytes < bytes_for n
+    → number 2 ≡ eight_at (record { bytes = bytes; count = n }) p
+unfolding eight_at
+refused_short bytes n p h few = simp (le-ltb _ _ h, lt-ltb _ _ few)
+
+pub shows_none : (bytes : List ℕ) (n p : ℕ) → n ≤ 2 ^ 30 → bytes_for n ≤ length bytes → n ≤ p
+    → shown 0 0 ≡ eight_at (record { bytes = bytes; count = n }) p
+shows_none bytes n p h enough l =
+    let t : Packed = record { bytes = bytes; count = n } in
+    let none : count_at n p ≡ 0 = omega arith in
+    tells t p (record { short = h; enough = enough }) (sym (byte_none t p none)) (sym none)
+
 pub every_read : (t : Packed) (p : ℕ) → Good t → ReadAt t p
 every_read t p g =
     record {

@@ -59,6 +59,7 @@ fn first_bits(bytes: &[u8], p: Place, count: u32) -> u8
 
 // The bits p to p + 7 of the first n bits, as a byte with bit p leftmost, and how many of them lie before n. Sums have 64 bits,
 // since p may be any number of 32 bits.
+#[tactic(auto, using(crate::proofs::ReadClaims::refused_long, crate::proofs::ReadClaims::refused_short, crate::proofs::ReadClaims::shows_none))]
 pub fn eight_bits(bytes: &[u8], n: u64, p: Place) -> Eight
     ensures { verdict_of result ≡ eight_at (record { bytes = bytes.now; count = n }) p.0 }
 {

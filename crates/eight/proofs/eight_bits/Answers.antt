@@ -4,22 +4,11 @@ use mathlib.Core.Path.{◌≡◌, sym, ◌∙◌, ap}
 use Prim.Native.Nat.{ℕ, ◌+◌, ◌-◌, ◌*◌, ◌^◌}
 use native.Mathlib.Omega.{arith}
 use native.Mathlib.Nat.{mul-one}
-use borrow.Author.Tests.{lt-ltb, le-ltb}
 use Rattle.bits.specs.Packed.{Packed, bits_at}
-use Rattle.eight.specs.Eight.{count_at, eight_at}
-use Rattle.eight.proofs.ShownByte.{byte_load, byte_none, byte_inside}
+use Rattle.eight.specs.Eight.{count_at}
+use Rattle.eight.proofs.ShownByte.{byte_load, byte_inside}
 use Rattle.eight.proofs.ReadClaims.{tells}
 use Rattle.eight.proofs.eight_bits.Goals as goal
-
-pub returns-then-n-gt1073741824 : goal.returns-then-n-gt1073741824
-unfolding eight_at
-returns-then-n-gt1073741824 c = simp (lt-ltb (2 ^ 30) c.args.n c.if-n-gt1073741824.true)
-
-pub returns-then-bytes-bytes_for : goal.returns-then-bytes-bytes_for
-unfolding eight_at
-returns-then-bytes-bytes_for c =
-    let few = rw c.bytes_for.ensures at c.if-bytes-bytes_for.true in
-    simp (le-ltb _ _ c.if-n-gt1073741824.false, lt-ltb _ _ few)
 
 pub returns-then-at-n : goal.returns-then-at-n
 returns-then-at-n c =
@@ -30,14 +19,6 @@ returns-then-at-n c =
     tells t a.p.0 (record { short = c.if-n-gt1073741824.false; enough = enough })
     (c.first_bits-all.ensures ∙ mul-one _ ∙ sym (byte_inside t a.p.0 c.if-at-n.true))
     eight
-
-pub returns-then-past-ge8 : goal.returns-then-past-ge8
-returns-then-past-ge8 c =
-    let a = c.args in
-    let t : Packed = record { bytes = a.bytes.now; count = a.n } in
-    let enough = rw c.bytes_for.ensures at c.if-bytes-bytes_for.false in
-    let none : count_at a.n a.p.0 ≡ 0 = omega arith in
-    tells t a.p.0 (record { short = c.if-n-gt1073741824.false; enough = enough }) (sym (byte_none t a.p.0 none)) (sym none)
 
 pub returns : goal.returns
 returns c =
