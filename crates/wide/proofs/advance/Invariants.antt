@@ -1,0 +1,13 @@
+-- `wide::advance` meets its contract. The loop's invariant: the steps made, with their list.
+-- Assumes nothing.
+use mathlib.Core.Bool.{false}
+use Prim.Native.Nat.{◌-◌}
+use Rattle.rules.specs.declared.Method.TheVariants.{Wide}
+use Rattle.matcher.specs.Progress.{text_in, pattern_in, Advanced}
+use Rattle.wide.proofs.advance.Given as goal
+
+abbrev pub invariant-loop-at : goal.invariant-loop-at
+invariant-loop-at l = Advanced Wide (text_in l.text l.known) (pattern_in l.pattern l.fixed l.known) l.initial.at l.budget l.initial.list l.had l.at l.steps l.hits false l.list
+
+abbrev pub decreases-loop-at : goal.decreases-loop-at
+decreases-loop-at l = l.budget - l.steps
