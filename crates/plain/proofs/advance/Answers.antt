@@ -69,7 +69,7 @@ more c at hits no_cell list u =
     let l = c.loop-at in
     let b = bounds in
     let h = c.if-end-p.false in
-    step_at (text_in a.text.now a.known) (pattern_in a.pattern.now a.fixed.now a.known) a.s.0 a.budget a.list.now a.had l.at l.hits l.list c.requires.head_of.1.1 l.invariant.1 l.invariant.0
+    step_at (text_in a.text.now a.known) (pattern_in a.pattern.now a.fixed.now a.known) a.s.0 a.budget a.list.now a.had l.at l.hits l.list c.requires.s_bound.1 l.invariant.1 l.invariant.0
     c.candidate-c.result.0 c.candidate-c.ensures.0 (inside c) (omega arith) passed at hits no_cell list u
 
 -- whether all cells of the candidate's row agree: its first cell does
@@ -88,7 +88,7 @@ loop-at-init c =
     let none : a.s.0 - a.s.0 ≡ 0 = omega arith in
     let e = c.reach-limit.ensures in
     let i = c.requires.ready.inside in
-    (rw none (advanced_none Plain (text_in a.text.now a.known) (pattern_in a.pattern.now a.fixed.now a.known) a.s.0 a.budget a.list.now a.had c.requires.head_of.1.1 c.requires.head_of.1.0), omega arith, omega (arith, c.requires.head_of.1.0))
+    (rw none (advanced_none Plain (text_in a.text.now a.known) (pattern_in a.pattern.now a.fixed.now a.known) a.s.0 a.budget a.list.now a.had c.requires.s_bound.1 c.requires.s_bound.0), omega arith, omega (arith, c.requires.s_bound.0))
 
 pub candidate-c-requires : goal.candidate-c-requires
 candidate-c-requires c =
@@ -106,7 +106,7 @@ returns-then-end-p c =
     let l = c.loop-at in
     let b = bounds (goal.at.returns-then-end-p c).At-loop-at in
     let h = c.if-end-p.true in
-    pass_to (text_in a.text.now a.known) (pattern_in a.pattern.now a.fixed.now a.known) a.s.0 a.budget a.list.now a.had l.at l.hits l.list c.requires.head_of.1.1 l.invariant.1 l.invariant.0
+    pass_to (text_in a.text.now a.known) (pattern_in a.pattern.now a.fixed.now a.known) a.s.0 a.budget a.list.now a.had l.at l.hits l.list c.requires.s_bound.1 l.invariant.1 l.invariant.0
     _ l.invariant.2 b.0 b.1 (λ q g u. passed (goal.at.returns-then-end-p c).After-candidate-c q g (omega arith))
 
 pub row_fits-requires : goal.row_fits-requires
@@ -128,10 +128,10 @@ returns-then-list-hits c =
     (test (goal.at.returns-then-list-hits c).After-row_fits) c.if-row_fits.true c.if-list-hits.true)
 
 pub offset_bounds-list-hits : goal.offset_bounds-list-hits
-offset_bounds-list-hits c = omega (arith, c.well-formed.1.1.1.1.1.1.1.0, size (goal.at.offset_bounds-list-hits c).At-loop-at)
+offset_bounds-list-hits c = omega (arith, c.well_formed.1.1.1.1.1.1.1.0, size (goal.at.offset_bounds-list-hits c).At-loop-at)
 
 pub overflow_add-hits : goal.overflow_add-hits
-overflow_add-hits c = omega (arith, c.well-formed.1.1.1.1.1.1.1.0, size (goal.at.overflow_add-hits c).At-loop-at)
+overflow_add-hits c = omega (arith, c.well_formed.1.1.1.1.1.1.1.0, size (goal.at.overflow_add-hits c).At-loop-at)
 
 pub loop-at-smaller-then-row_fits : goal.loop-at-smaller-then-row_fits
 loop-at-smaller-then-row_fits c =

@@ -19,19 +19,19 @@ pub returns-then-list-had : goal.returns-then-list-had
 returns-then-list-had c =
     let a = c.args in
     step_full (text_in a.text.now a.known) (pattern_in a.pattern.now a.fixed.now a.known) a.cells.now c.requires.ready
-    (λ x. (c.type_inv.cells x).fits) a.s.0 c.requires.head_of.1.0 a.list.now a.had c.requires.head_of.1.1 _
+    (λ x. (c.type_inv.cells x).fits) a.s.0 c.requires.s_bound.0 a.list.now a.had c.requires.s_bound.1 _
     c.row_fits.ensures c.if-row_fits.true (omega arith)
 
 pub returns-then-row_fits : goal.returns-then-row_fits
 returns-then-row_fits c =
     let a = c.args in
     step_one (text_in a.text.now a.known) (pattern_in a.pattern.now a.fixed.now a.known) a.cells.now c.requires.ready
-    (λ x. (c.type_inv.cells x).fits) a.s.0 c.requires.head_of.1.0 a.list.now a.had c.requires.head_of.1.1 _
+    (λ x. (c.type_inv.cells x).fits) a.s.0 c.requires.s_bound.0 a.list.now a.had c.requires.s_bound.1 _
     c.row_fits.ensures c.if-row_fits.true (omega arith)
 
 pub returns : goal.returns
 returns c =
     let a = c.args in
     step_none (text_in a.text.now a.known) (pattern_in a.pattern.now a.fixed.now a.known) a.cells.now c.requires.ready
-    (λ x. (c.type_inv.cells x).fits) a.s.0 c.requires.head_of.1.0 a.list.now a.had c.requires.head_of.1.1 _
+    (λ x. (c.type_inv.cells x).fits) a.s.0 c.requires.s_bound.0 a.list.now a.had c.requires.s_bound.1 _
     c.row_fits.ensures c.if-row_fits.false

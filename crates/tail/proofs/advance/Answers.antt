@@ -8,4 +8,4 @@ use Rattle.tail.proofs.advance.Goals as goal
 pub returns-then-budget-eq0 : goal.returns-then-budget-eq0
 returns-then-budget-eq0 c =
     let a = c.args in
-    advanced_none Tail (text_in a.text.now a.known) (pattern_in a.pattern.now a.fixed.now a.known) a.s.0 a.budget a.list.now a.had c.requires.head_of.1.1 c.requires.head_of.1.0
+    advanced_none Tail (text_in a.text.now a.known) (pattern_in a.pattern.now a.fixed.now a.known) a.s.0 a.budget a.list.now a.had c.requires.s_bound.1 c.requires.s_bound.0

@@ -49,7 +49,7 @@ move_of-one-requires c = let ready = c.requires.ready in omega (arith, ready.pat
 pub loop-at-init : goal.loop-at-init
 loop-at-init c =
     let a = c.args in
-    advanced_none Wide (text_in a.text.now a.known) (pattern_in a.pattern.now a.fixed.now a.known) a.s.0 a.budget a.list.now a.had c.requires.head_of.1.1 c.requires.head_of.1.0
+    advanced_none Wide (text_in a.text.now a.known) (pattern_in a.pattern.now a.fixed.now a.known) a.s.0 a.budget a.list.now a.had c.requires.s_bound.1 c.requires.s_bound.0
 
 pub next_mark-to-requires : goal.next_mark-to-requires
 next_mark-to-requires c =
@@ -92,7 +92,7 @@ none c =
     let here = seen in
     let inside : l.at < places (text_in a.text.now a.known) w = omega (arith, c.requires.ready.inside) in
     let free : l.hits ≤ length l.list = omega (arith, long, l.invariant.writing.fits) in
-    advanced_step Wide (text_in a.text.now a.known) w a.s.0 a.budget a.list.now a.had l.at l.steps l.hits l.list c.requires.head_of.1.1
+    advanced_step Wide (text_in a.text.now a.known) w a.s.0 a.budget a.list.now a.had l.at l.steps l.hits l.list c.requires.s_bound.1
     l.invariant _ _ _ _ inside test.1
     (settled (text_in a.text.now a.known) w l.at l.list l.hits inside c.next_mark-to.result.0 l.list l.at c.scan-flags.result l.hits
     (settling_none (text_in a.text.now a.known) w l.at l.list l.hits inside c.scan-flags.result here.0 free) c.if-flags-eq0.true here.1)
@@ -112,7 +112,7 @@ settle-found-requires c =
     let l = c.loop-at in
     let here = seen (goal.at.settle-found-requires c).After-scan-flags in (
       omega (arith, tested (goal.at.settle-found-requires c).In-loop-at, ready.pattern.some_bits, ready.pattern.few_bits, ready.few_bits, ready.inside, long (goal.at.settle-found-requires c).At-loop-at, l.invariant.writing.fits),
-      (c.requires.head_of.0, here),
+      (c.requires.head_of, here),
     )
 
 -- the steps with the one that this turn makes
@@ -125,7 +125,7 @@ turned c =
     let a = c.args in
     let l = c.loop-at in
     let test = tested in
-    advanced_step Wide (text_in a.text.now a.known) (pattern_in a.pattern.now a.fixed.now a.known) a.s.0 a.budget a.list.now a.had l.at l.steps l.hits l.list c.requires.head_of.1.1
+    advanced_step Wide (text_in a.text.now a.known) (pattern_in a.pattern.now a.fixed.now a.known) a.s.0 a.budget a.list.now a.had l.at l.steps l.hits l.list c.requires.s_bound.1
     l.invariant _ _ _ _ (omega (arith, c.requires.ready.inside)) test.1 c.settle-found.ensures
 
 pub shape_of-list-then-found : goal.shape_of-list-then-found

@@ -30,7 +30,7 @@ long c =
 pub loop-f-init : goal.loop-f-init
 loop-f-init c =
     let a = c.args in
-    settling_none (text_in a.text.now a.known) (pattern_in a.pattern.now a.fixed.now a.known) a.s.0 a.list.now a.had (omega arith) a.flags c.requires.head_of.1.0 (omega arith)
+    settling_none (text_in a.text.now a.known) (pattern_in a.pattern.now a.fixed.now a.known) a.s.0 a.list.now a.had (omega arith) a.flags c.requires.flagged (omega arith)
 
 pub overflow_add-p : goal.overflow_add-p
 overflow_add-p c = omega (arith, trailing_le 64 c.loop-f.f)
@@ -45,7 +45,7 @@ pub overflow_add-at : goal.overflow_add-at
 overflow_add-at c = omega (arith, trailing_le 64 c.loop-f.f)
 
 pub same-requires : goal.same-requires
-same-requires c = record { m_nonzero = omega (arith, low c); head_of = c.requires.head_of.0 }
+same-requires c = record { m_nonzero = omega (arith, low c); head_of = c.requires.head_of }
 
 pub shape_of-list-then-list-hits : goal.shape_of-list-then-list-hits
 shape_of-list-then-list-hits c = long (goal.at.shape_of-list-then-list-hits c).At-loop-f
@@ -93,4 +93,4 @@ returns c =
     let a = c.args in
     let l = c.loop-f in
     settled (text_in a.text.now a.known) (pattern_in a.pattern.now a.fixed.now a.known) a.s.0 a.list.now a.had (omega arith) a.to.0 l.list l.at l.f l.hits l.invariant c.loop-f-test.false
-    c.requires.head_of.1.1
+    c.requires.to_value

@@ -30,7 +30,7 @@ settle-requires c =
     let zero = c.move_of-zero.ensures.move w refl ready.tables in
     let one = c.move_of-one.ensures.move w refl ready.tables in (
       omega (arith, ready.pattern.some_bits, ready.pattern.few_bits, ready.few_bits),
-      (c.requires.head_of.0, (flagged_of (text_in a.text.now a.known) w a.cells.now a.s.0 c.scan-flags.result c.scan-flags.type-inv ready.tables c.scan-flags.ensures, c.next_mark-to.ensures.mark w refl zero one)),
+      (c.requires.head_of, (flagged_of (text_in a.text.now a.known) w a.cells.now a.s.0 c.scan-flags.result c.scan-flags.type-inv ready.tables c.scan-flags.ensures, c.next_mark-to.ensures.mark w refl zero one)),
     )
 
 pub shape_of-list : goal.shape_of-list
