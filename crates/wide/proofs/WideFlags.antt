@@ -22,7 +22,7 @@ use Rattle.rules.specs.Wide.{wide_finds}
 use Rattle.rules.specs.Step.{finds, next}
 use Rattle.matcher.specs.Tables.{WideTables}
 use Rattle.matcher.specs.Progress.{text_of, Writing, Stepped}
-use Rattle.wide.specs.Flags.{stands_after_lem, Scanned, Stand, Flagged, stop}
+use Rattle.wide.specs.Flags.{stands_after, Scanned, Stand, Flagged, stop}
 use Rattle.rules.proofs.Ranges.{and_both, not_true_false, among_same}
 use Rattle.rules.proofs.Occurrence.{occurs_inside, none_from_places, occurrences_none, occurrences_append, occurrences_one, occurrences_further, occurrences_to}
 use Rattle.rules.proofs.Wide.{stands_matches, flagged_occurs}
@@ -59,7 +59,7 @@ flagged_of t w cells s f fits tables z =
           (stands_after_lem t w s z.made (p - s) (omega arith) (stands_matches t w s p l (omega arith) (omega arith) ∙ sym (counted t w p) ∙ h)));
       inside = few_flags 64 (stop t w s - s) f fits (λ i l u.
           z.flags w refl tables i u
-          ∙ ap (λ (b : Bool). bit_for (b && stands_after_lem t w s z.made i)) (le-ltb (s + i) (places t w) (omega arith)));
+          ∙ ap (λ (b : Bool). bit_for (b && stands_after t w s z.made i)) (le-ltb (s + i) (places t w) (omega arith)));
     }
 
 -- the pattern stands at no place from a on and before b

@@ -23,7 +23,7 @@ use Rattle.rules.specs.Occurrence.{places}
 use Rattle.rules.specs.Wide.{window, stands}
 use Rattle.matcher.specs.Tables.{passes}
 use Rattle.matcher.specs.Progress.{text_of}
-use Rattle.wide.specs.Flags.{StartsByte, within, second, applied, rounds, Applies, stands_after_lem, Scanned}
+use Rattle.wide.specs.Flags.{StartsByte, within, second, applied, rounds, Applies, stands_after, Scanned}
 use Rattle.rules.proofs.Ranges.{and_left, and_right, and_both, to_implies, implies_to, not_true_false, every_at, to_every}
 use Rattle.rules.proofs.Wide.{stands_at}
 use Rattle.wide.proofs.WideTables.{bit_for, bit_lit, passes_to}
@@ -217,8 +217,8 @@ bit_is v true l h g = g refl
 bit_is v false l h g = ⊎_elim (λ e. e) (λ e. absurd (true≢false (sym (h e)))) (bit_or_bit v l)
 
 -- A flag that stands by the rule stands after any rounds, so one that falls in them falls by the rule.
-pub stands_after_lem : (t : Packed) (w : Pattern) (s k i : ℕ) → s + i < places t w → stands t w s i ≡ true → stands_after_lem t w s k i ≡ true
-unfolding stands_after_lem
+pub stands_after_lem : (t : Packed) (w : Pattern) (s k i : ℕ) → s + i < places t w → stands t w s i ≡ true → stands_after t w s k i ≡ true
+unfolding stands_after
 stands_after_lem t w s k i inside h =
     to_every (window w) _ (λ q u. to_implies (applied w.count k q) _ (λ a.
     passes_to w (bit_at t.bytes (s + q)) q i (λ l b. stands_at t w s i h q u (record { inside = omega arith; from = l; to = b }))))
@@ -231,7 +231,7 @@ module _ (bytes : List ℕ) (n m : ℕ) (cells : List ℕ) (s : ℕ) where
 
   -- the last step: no round, and its places are those below E
   pub scanned_end : (k : ℕ) → s + m ≤ n → s + 63 + m ≡ n + k → Scanned t m cells s (all_flags / 2 ^ k)
-  unfolding stands_after_lem
+  unfolding stands_after
   scanned_end k low e =
       record {
         made = 0;
@@ -239,11 +239,11 @@ module _ (bytes : List ℕ) (n m : ℕ) (cells : List ℕ) (s : ℕ) where
         some = λ h. absurd (omega arith);
         enough = λ h. absurd (omega arith);
         flags = λ w same tables i l.
-            let all : stands_after_lem t w s 0 i ≡ true
+            let all : stands_after t w s 0 i ≡ true
             = to_every (window w) _ (λ q u. ap (λ (b : Bool). implies b (passes w (bit_at bytes (s + q)) q i)) (rounds_none w.count q)) in
             weight_shr all_flags k i
             ∙ elim (dec_le 64 (k + i)) [
-              | yes h ↦ weight_out {x = all_flags} {w = 64} {i = k + i} (omega arith) h ∙ sym (ap (λ (b : Bool). bit_for (b && stands_after_lem t w s 0 i)) (le-ltb (s + i) (places t w) (omega arith)))
+              | yes h ↦ weight_out {x = all_flags} {w = 64} {i = k + i} (omega arith) h ∙ sym (ap (λ (b : Bool). bit_for (b && stands_after t w s 0 i)) (le-ltb (s + i) (places t w) (omega arith)))
               | no h ↦ weight_ones 64 (k + i) (omega arith) ∙ sym (ap bit_for (and_both (lt-ltb (s + i) (places t w) (omega arith)) all))
             ];
       }
@@ -252,7 +252,7 @@ module _ (bytes : List ℕ) (n m : ℕ) (cells : List ℕ) (s : ℕ) where
   module _ (inside : s + 63 + m < n) where
     scanned_after : (k f : ℕ) → 0 < k → (k < rounds m → ones f < 2) → ((q : ℕ) → applied m k q ≡ true → q < 63 + m)
         → Applies bytes cells s (applied m k) all_flags f → Scanned t m cells s f
-    unfolding Applies stands_after_lem
+    unfolding Applies stands_after
     scanned_after k f some few whole a =
         record {
           made = k;
@@ -271,7 +271,7 @@ module _ (bytes : List ℕ) (n m : ℕ) (cells : List ℕ) (s : ℕ) where
                 λ q b.
                     let u : q < window w = omega (arith, whole q b) in
                     cell q u ∙ ap bit_for (implies_to (applied w.count k q) _
-                    (every_at (window w) _ (and_right (ltb (s + i) (places t w)) (stands_after_lem t w s k i) h) q u)
+                    (every_at (window w) _ (and_right (ltb (s + i) (places t w)) (stands_after t w s k i) h) q u)
                     (ap (λ (c : ℕ). applied c k q) e ∙ b)),
               ));
         }

@@ -1,4 +1,4 @@
-use borrow.Author.Tests.{ltb-true, ltb-false, eqb-true, eqb-false}
+use borrow.Author.Tests.{ltb-false, eqb-true, eqb-false}
 use borrow.Author.Rules.{scaled_Fits}
 use mathlib.Core.Path.{◌≡◌, refl, sym, ap, ◌∙◌}
 use mathlib.Core.Logic.{⊎_elim}
@@ -10,9 +10,7 @@ use native.Mathlib.Omega.{arith}
 use lib.Bits.{bit_and, bit_xor}
 use lib.Dec.{eqb}
 use lib.ListN.{length}
-use Rattle.bits.specs.Packed.{Packed}
 use Rattle.rules.specs.declared.Method.TheVariants.{Tail}
-use Rattle.rules.specs.Pattern.{Pattern}
 use Rattle.rules.specs.Occurrence.{places, matches}
 use Rattle.rules.specs.Step.{next}
 use Rattle.matcher.specs.Progress.{text_in, pattern_in, Stepped, Advanced}
@@ -21,14 +19,7 @@ use Rattle.matcher.proofs.Advancing.{counted, advanced_none, advanced_step}
 use Rattle.tail.specs.Lengths.{Longest, Moves}
 use Rattle.tail.proofs.TailSteps.{short_enough, stays, mark_fits, not_both, counts, one_made, one_more, less_left, before_end, at_most_min, Held, held, next_by, window_hit, window_miss, finds_alone}
 use Rattle.tail.proofs.scan.Goals as goal
-use Rattle.tail.proofs.scan.Goals.{After-masks_of-k, At-loop-at, Joined-found, Joined-x-last, Start, Then-steps-budget}
-
--- the text and the pattern
-abbrev text_of : Start → Packed
-text_of c Start) = text_in c.args.text.now c.args.known
-
-abbrev pattern_of : Start → Pattern
-pattern_of c Start) = pattern_in c.args.pattern.now c.args.fixed.now c.args.known
+use Rattle.tail.proofs.scan.Goals.{then-x-last, else-x-last, then-found+else-list-hits, else-found, then-loop-at-test+else-steps-budget, else-loop-at-test, After-masks_of-k, At-loop-at, Joined-found, Joined-x-last, Start, Then-steps-budget}
 
 -- the list keeps its length, and what is written fits into it
 size : (c : At-loop-at) → length c.loop-at.list ≡ length c.args.list.now
@@ -38,41 +29,37 @@ room : (c : At-loop-at) → c.loop-at.hits ≤ length c.loop-at.list
 room c = rw (size c) c.loop-at.invariant.0.writing.fits
 
 -- what the call holds of the pattern
-holds : (c : After-masks_of-k) → Held (pattern_of (?PLACE Start)) c.masks_of-k.result
+holds : (c : After-masks_of-k) → Held (pattern_in c.args.pattern.now c.args.fixed.now c.args.known) c.masks_of-k.result
 holds c =
-    let text_of : Packed = λ Start). text_in c.args.text.now c.args.known in
-    let pattern_of : Pattern = λ Start). pattern_in c.args.pattern.now c.args.fixed.now c.args.known in
-    held text_of pattern_of c.args.cells.now c.requires.ready c.masks_of-k.result (c.type_inv.cells 1).fits c.masks_of-k.ensures
+    held (text_in c.args.text.now c.args.known) (pattern_in c.args.pattern.now c.args.fixed.now c.args.known) c.args.cells.now c.requires.ready c.masks_of-k.result (c.type_inv.cells 1).fits c.masks_of-k.ensures
 
 -- the move from a window
 move_of : (c : After-masks_of-k) (x r : ℕ) → let k = c.masks_of-k.result in Longest k.m k.zeros k.ones x r → Moves k x (c.args.known.m - r)
 move_of c x r longest = record { length = r; longest = longest; is = ap (λ (m : ℕ). m - r) (sym c.masks_of-k.ensures.0) }
 
 -- the place of this turn lies before the end of the places
-inside : (c : Then-steps-budget) → c.loop-at.at < places (text_of (?PLACE Start)) (pattern_of (?PLACE Start))
+inside : (c : Then-steps-budget) → c.loop-at.at < places (text_in c.args.text.now c.args.known) (pattern_in c.args.pattern.now c.args.fixed.now c.args.known)
 inside c = before_end _ _ _ c.requires.ready.inside c.loop-at-test.true
 
 -- a step more from there
 more : (c : Then-steps-budget) (at hits : ℕ) (no_cell : Bool) (list : List ℕ)
     → let a = c.args in
     let l = c.loop-at in
-    Stepped Tail (text_of (?PLACE Start)) (pattern_of (?PLACE Start)) l.at l.list l.hits at hits no_cell list
-    → Advanced Tail (text_of (?PLACE Start)) (pattern_of (?PLACE Start)) a.s.0 a.budget a.list.now a.had at (counted no_cell l.steps) hits no_cell list
+    Stepped Tail (text_in c.args.text.now c.args.known) (pattern_in c.args.pattern.now c.args.fixed.now c.args.known) l.at l.list l.hits at hits no_cell list
+    → Advanced Tail (text_in c.args.text.now c.args.known) (pattern_in c.args.pattern.now c.args.fixed.now c.args.known) a.s.0 a.budget a.list.now a.had at (counted no_cell l.steps) hits no_cell list
 more c at hits no_cell list u =
-    let text_of : Packed = λ Start). text_in c.args.text.now c.args.known in
-    let pattern_of : Pattern = λ Start). pattern_in c.args.pattern.now c.args.fixed.now c.args.known in
     let a = c.args in
     let l = c.loop-at in
-    let here : min l.at (places text_of pattern_of) ≡ l.at = at_most_min _ _ (le_of_lt (inside c)) in
-    advanced_step Tail text_of pattern_of a.s.0 a.budget a.list.now a.had l.at l.steps l.hits l.list c.requires.s_bound.1 (rw here at l.invariant.0)
-    at hits no_cell list (inside c) (ltb-true _ _ c.if-steps-budget.true) u
+    let here : min l.at (places (text_in c.args.text.now c.args.known) (pattern_in c.args.pattern.now c.args.fixed.now c.args.known)) ≡ l.at = at_most_min _ _ (le_of_lt (inside c)) in
+    advanced_step Tail (text_in c.args.text.now c.args.known) (pattern_in c.args.pattern.now c.args.fixed.now c.args.known) a.s.0 a.budget a.list.now a.had l.at l.steps l.hits l.list c.requires.s_bound.1 (rw here at l.invariant.0)
+    at hits no_cell list (inside c) c.if-steps-budget.true u
 
 -- the first step is made from the mark
 first : (c : Then-steps-budget) (at hits : ℕ) (no_cell : Bool) (list : List ℕ)
     → let a = c.args in
     let l = c.loop-at in
-    Stepped Tail (text_of (?PLACE Start)) (pattern_of (?PLACE Start)) l.at l.list l.hits at hits no_cell list
-    → l.steps ≡ 0 → Stepped Tail (text_of (?PLACE Start)) (pattern_of (?PLACE Start)) a.s.0 a.list.now a.had at hits no_cell list
+    Stepped Tail (text_in c.args.text.now c.args.known) (pattern_in c.args.pattern.now c.args.fixed.now c.args.known) l.at l.list l.hits at hits no_cell list
+    → l.steps ≡ 0 → Stepped Tail (text_in c.args.text.now c.args.known) (pattern_in c.args.pattern.now c.args.fixed.now c.args.known) a.s.0 a.list.now a.had at hits no_cell list
 first c at hits no_cell list u e = let i = c.loop-at.invariant.4 e in rw (i.0, i.1, i.2) at u
 
 -- what the window of this turn tells, whether it is read off it or was by the last one
@@ -80,66 +67,57 @@ told : (c : Joined-x-last)
     → let k = c.masks_of-k.result in
     let m = c.args.known.m in
     let x = c.window-x.result in
-    Moves k x c.if-x-last.far × (c.if-x-last.found ≡ eqb (bit_and (bit_xor x (k.ones / 2 ^ (64 - m))) (k.care / 2 ^ (64 - m))) 0) × (c.if-x-last.new ≡ x)
+    Moves k x c.if-x-last.far × (c.if-x-last.found ≡ eqb (bit_and (bit_xor x (k.ones / 2 ^ (64 - m))) (k.care / 2 ^ (64 - m))) 0) × (c.if-x-last.last ≡ x)
 told c =
     let move_of : (x r : ℕ) → let k = c.masks_of-k.result in Longest k.m k.zeros k.ones x r → Moves k x (c.args.known.m - r) = λ x r longest. record { length = r; longest = longest; is = ap (λ (m : ℕ). m - r) (sym c.masks_of-k.ensures.0) } in
     let l = c.loop-at in
-    ⊎_elim
-    (λ u. rw (u.3, u.4, u.5) (move_of _ _ u.1.ensures, refl, refl))
-    (λ u. let same : c.window-x.result ≡ l.last = u.0.left in rw (u.1, u.2, u.3, same) (l.invariant.2, l.invariant.3, refl))
-    c.if-x-last.branch
+    elim c.if-x-last.branch [
+      then-x-last w ↦ rw (w.last-is, w.far-is, w.found-is) (move_of _ _ w.longest-then-x-last.ensures, refl, refl)
+    | else-x-last w ↦ let same : c.window-x.result ≡ l.last = w.if-x-last.false in rw (w.last-is, w.far-is, w.found-is, same) (l.invariant.2, l.invariant.3, refl)
+    ]
 
 -- the next mark
 moved : (c : Joined-x-last)
     → let l = c.loop-at in
-    (min (l.at + c.if-x-last.far) (places (text_of (?PLACE Start)) (pattern_of (?PLACE Start))) ≡ next Tail (text_of (?PLACE Start)) (pattern_of (?PLACE Start)) l.at) × (l.at + c.if-x-last.far ≤ c.args.known.n)
+    (min (l.at + c.if-x-last.far) (places (text_in c.args.text.now c.args.known) (pattern_in c.args.pattern.now c.args.fixed.now c.args.known)) ≡ next Tail (text_in c.args.text.now c.args.known) (pattern_in c.args.pattern.now c.args.fixed.now c.args.known) l.at) × (l.at + c.if-x-last.far ≤ c.args.known.n)
 moved c =
-    let text_of : Packed = λ Start). text_in c.args.text.now c.args.known in
-    let pattern_of : Pattern = λ Start). pattern_in c.args.pattern.now c.args.fixed.now c.args.known in
-    let holds : Held (pattern_of (?PLACE Start)) c.masks_of-k.result = held text_of pattern_of c.args.cells.now c.requires.ready c.masks_of-k.result (c.type_inv.cells 1).fits c.masks_of-k.ensures in
-    let inside : c.loop-at.at < places (text_of (?PLACE Start)) (pattern_of (?PLACE Start)) = before_end _ _ _ c.requires.ready.inside c.loop-at-test.true in
+    let holds : Held (pattern_in c.args.pattern.now c.args.fixed.now c.args.known) c.masks_of-k.result = held (text_in c.args.text.now c.args.known) (pattern_in c.args.pattern.now c.args.fixed.now c.args.known) c.args.cells.now c.requires.ready c.masks_of-k.result (c.type_inv.cells 1).fits c.masks_of-k.ensures in
+    let inside : c.loop-at.at < places (text_in c.args.text.now c.args.known) (pattern_in c.args.pattern.now c.args.fixed.now c.args.known) = before_end _ _ _ c.requires.ready.inside c.loop-at-test.true in
     let moves = (told c).0 in (
-      sym (next_by text_of pattern_of _ c.masks_of-k.result holds _ c.window-x.ensures _ moves),
+      sym (next_by (text_in c.args.text.now c.args.known) (pattern_in c.args.pattern.now c.args.fixed.now c.args.known) _ c.masks_of-k.result holds _ c.window-x.ensures _ moves),
       stays _ _ _ _ (omega (arith, moves.is, c.masks_of-k.ensures.0)) c.requires.ready.inside inside,
     )
 
 -- whether the pattern stands at the place
-hit : (c : Joined-x-last) → c.if-x-last.found ≡ true → matches (text_of (?PLACE Start)) (pattern_of (?PLACE Start)) c.loop-at.at ≡ true
+hit : (c : Joined-x-last) → c.if-x-last.found ≡ true → matches (text_in c.args.text.now c.args.known) (pattern_in c.args.pattern.now c.args.fixed.now c.args.known) c.loop-at.at ≡ true
 hit c e =
-    let text_of : Packed = λ Start). text_in c.args.text.now c.args.known in
-    let pattern_of : Pattern = λ Start). pattern_in c.args.pattern.now c.args.fixed.now c.args.known in
-    let holds : Held (pattern_of (?PLACE Start)) c.masks_of-k.result = held text_of pattern_of c.args.cells.now c.requires.ready c.masks_of-k.result (c.type_inv.cells 1).fits c.masks_of-k.ensures in
-    window_hit text_of pattern_of _ c.masks_of-k.result holds _ c.window-x.ensures (eqb-true _ _ (sym (told c).1 ∙ e))
+    let holds : Held (pattern_in c.args.pattern.now c.args.fixed.now c.args.known) c.masks_of-k.result = held (text_in c.args.text.now c.args.known) (pattern_in c.args.pattern.now c.args.fixed.now c.args.known) c.args.cells.now c.requires.ready c.masks_of-k.result (c.type_inv.cells 1).fits c.masks_of-k.ensures in
+    window_hit (text_in c.args.text.now c.args.known) (pattern_in c.args.pattern.now c.args.fixed.now c.args.known) _ c.masks_of-k.result holds _ c.window-x.ensures (eqb-true _ _ (sym (told c).1 ∙ e))
 
-miss : (c : Joined-x-last) → c.if-x-last.found ≡ false → matches (text_of (?PLACE Start)) (pattern_of (?PLACE Start)) c.loop-at.at ≡ false
+miss : (c : Joined-x-last) → c.if-x-last.found ≡ false → matches (text_in c.args.text.now c.args.known) (pattern_in c.args.pattern.now c.args.fixed.now c.args.known) c.loop-at.at ≡ false
 miss c e =
-    let text_of : Packed = λ Start). text_in c.args.text.now c.args.known in
-    let pattern_of : Pattern = λ Start). pattern_in c.args.pattern.now c.args.fixed.now c.args.known in
-    let holds : Held (pattern_of (?PLACE Start)) c.masks_of-k.result = held text_of pattern_of c.args.cells.now c.requires.ready c.masks_of-k.result (c.type_inv.cells 1).fits c.masks_of-k.ensures in
-    window_miss text_of pattern_of _ c.masks_of-k.result holds _ c.window-x.ensures (eqb-false _ _ (sym (told c).1 ∙ e))
+    let holds : Held (pattern_in c.args.pattern.now c.args.fixed.now c.args.known) c.masks_of-k.result = held (text_in c.args.text.now c.args.known) (pattern_in c.args.pattern.now c.args.fixed.now c.args.known) c.args.cells.now c.requires.ready c.masks_of-k.result (c.type_inv.cells 1).fits c.masks_of-k.ensures in
+    window_miss (text_in c.args.text.now c.args.known) (pattern_in c.args.pattern.now c.args.fixed.now c.args.known) _ c.masks_of-k.result holds _ c.window-x.ensures (eqb-false _ _ (sym (told c).1 ∙ e))
 
 -- whether the place is written or not, it is as a step does it
 one : (c : Joined-found)
     → let l = c.loop-at in
-    Stepped Tail (text_of (?PLACE Start)) (pattern_of (?PLACE Start)) l.at l.list l.hits (min (l.at + c.if-x-last.far) (places (text_of (?PLACE Start)) (pattern_of (?PLACE Start)))) c.if-found.hits false c.if-found.list
-one c =
-    let text_of : Packed = λ Start). text_in c.args.text.now c.args.known in
-    let pattern_of : Pattern = λ Start). pattern_in c.args.pattern.now c.args.fixed.now c.args.known in
-    let room : c.loop-at.hits ≤ length c.loop-at.list = rw (size c) c.loop-at.invariant.0.writing.fits in
-    let text_of : Packed = λ Start). text_in c.args.text.now c.args.known in
-    let pattern_of : Pattern = λ Start). pattern_in c.args.pattern.now c.args.fixed.now c.args.known in
-    let holds : Held (pattern_of (?PLACE Start)) c.masks_of-k.result = held text_of pattern_of c.args.cells.now c.requires.ready c.masks_of-k.result (c.type_inv.cells 1).fits c.masks_of-k.ensures in
-    let inside : c.loop-at.at < places (text_of (?PLACE Start)) (pattern_of (?PLACE Start)) = before_end _ _ _ c.requires.ready.inside c.loop-at-test.true in
-    let moved : let l = c.loop-at in (min (l.at + c.if-x-last.far) (places (text_of (?PLACE Start)) (pattern_of (?PLACE Start))) ≡ next Tail (text_of (?PLACE Start)) (pattern_of (?PLACE Start)) l.at) × (l.at + c.if-x-last.far ≤ c.args.known.n) = let moves = (told c).0 in ( sym (next_by text_of pattern_of _ c.masks_of-k.result holds _ c.window-x.ensures _ moves), stays _ _ _ _ (omega (arith, moves.is, c.masks_of-k.ensures.0)) c.requires.ready.inside inside, ) in
-    let hit : c.if-x-last.found ≡ true → matches (text_of (?PLACE Start)) (pattern_of (?PLACE Start)) c.loop-at.at ≡ true = λ e. window_hit text_of pattern_of _ c.masks_of-k.result holds _ c.window-x.ensures (eqb-true _ _ (sym (told c).1 ∙ e)) in
-    let miss : c.if-x-last.found ≡ false → matches (text_of (?PLACE Start)) (pattern_of (?PLACE Start)) c.loop-at.at ≡ false = λ e. window_miss text_of pattern_of _ c.masks_of-k.result holds _ c.window-x.ensures (eqb-false _ _ (sym (told c).1 ∙ e)) in
+    let t = text_in c.args.text.now c.args.known in
+    let w = pattern_in c.args.pattern.now c.args.fixed.now c.args.known in
+    min (l.at + c.if-x-last.far) (places t w) ≡ next Tail t w l.at
+    → (c.if-x-last.found ≡ true → matches t w l.at ≡ true)
+    → (c.if-x-last.found ≡ false → matches t w l.at ≡ false)
+    → l.hits ≤ length l.list
+    → Stepped Tail t w l.at l.list l.hits (min (l.at + c.if-x-last.far) (places t w)) c.if-found.hits false c.if-found.list
+one c moves stands falls room =
     let l = c.loop-at in
-    let alone = finds_alone text_of pattern_of l.at in
-    let moves = moved.0 in
-    ⊎_elim
-    (λ w. rw (w.2, w.3) (alone_hit Tail text_of pattern_of l.at l.list l.hits alone _ moves (hit w.0.taken) w.1.left))
-    (λ w. rw (w.1, w.2) (alone_miss Tail text_of pattern_of l.at l.list l.hits alone _ moves (miss w.0.left) room))
-    c.if-found.branch
+    let t = text_in c.args.text.now c.args.known in
+    let w = pattern_in c.args.pattern.now c.args.fixed.now c.args.known in
+    let alone = finds_alone t w l.at in
+    elim c.if-found.branch [
+      then-found+else-list-hits b ↦ rw (b.hits-is, b.list-is) (alone_hit Tail t w l.at l.list l.hits alone _ moves (stands b.if-found.true) b.if-list-hits.false)
+    | else-found b ↦ rw (b.hits-is, b.list-is) (alone_miss Tail t w l.at l.list l.hits alone _ moves (falls b.if-found.false) room)
+    ]
 
 pub masks_of-k-requires : goal.masks_of-k-requires
 masks_of-k-requires c = let p = c.requires.ready.pattern in (p.some_bits, short_enough _ p)
@@ -171,8 +149,8 @@ overflow_sub-far c = omega (arith, c.longest.ensures.below, c.masks_of-k.ensures
 pub loop-at-init : goal.loop-at-init
 loop-at-init c =
     let a = c.args in
-    let here : min a.s.0 (places (text_of (goal.at.loop-at-init c).Start) (pattern_of (goal.at.loop-at-init c).Start)) ≡ a.s.0 = at_most_min _ _ c.requires.s_bound.0 in (
-      rw here (advanced_none Tail (text_of (goal.at.loop-at-init c).Start) (pattern_of (goal.at.loop-at-init c).Start) a.s.0 a.budget a.list.now a.had c.requires.s_bound.1 c.requires.s_bound.0),
+    let here : min a.s.0 (places (text_in c.args.text.now c.args.known) (pattern_in c.args.pattern.now c.args.fixed.now c.args.known)) ≡ a.s.0 = at_most_min _ _ c.requires.s_bound.0 in (
+      rw here (advanced_none Tail (text_in c.args.text.now c.args.known) (pattern_in c.args.pattern.now c.args.fixed.now c.args.known) a.s.0 a.budget a.list.now a.had c.requires.s_bound.1 c.requires.s_bound.0),
       omega (arith, c.requires.ready.pattern.some_bits, c.requires.s_bound.0),
       move_of (goal.at.loop-at-init c).After-masks_of-k _ _ c.longest.ensures,
       refl,
@@ -195,8 +173,8 @@ shape_of-list-then-list-hits c = size (goal.at.shape_of-list-then-list-hits c).A
 pub returns-then-list-hits : goal.returns-then-list-hits
 returns-then-list-hits c =
     let l = c.loop-at in
-    let few : l.steps < c.args.budget = ltb-true _ _ c.if-steps-budget.true in
-    let cut = alone_cut Tail (text_of (goal.at.returns-then-list-hits c).Start) (pattern_of (goal.at.returns-then-list-hits c).Start) l.at l.list l.hits (finds_alone (text_of (goal.at.returns-then-list-hits c).Start) (pattern_of (goal.at.returns-then-list-hits c).Start) l.at) (hit (goal.at.returns-then-list-hits c).Joined-x-last c.if-found.true) (le_antisymm (room (goal.at.returns-then-list-hits c).At-loop-at) c.if-list-hits.true) in
+    let few : l.steps < c.args.budget = c.if-steps-budget.true in
+    let cut = alone_cut Tail (text_in c.args.text.now c.args.known) (pattern_in c.args.pattern.now c.args.fixed.now c.args.known) l.at l.list l.hits (finds_alone (text_in c.args.text.now c.args.known) (pattern_in c.args.pattern.now c.args.fixed.now c.args.known) l.at) (hit (goal.at.returns-then-list-hits c).Joined-x-last c.if-found.true) (le_antisymm (room (goal.at.returns-then-list-hits c).At-loop-at) c.if-list-hits.true) in
     record { advanced = more (goal.at.returns-then-list-hits c).Then-steps-budget _ _ _ _ cut; one_step = λ e _. first (goal.at.returns-then-list-hits c).Then-steps-budget _ _ _ _ cut (omega arith) }
 
 pub offset_bounds-list-hits : goal.offset_bounds-list-hits
@@ -206,18 +184,19 @@ pub overflow_add-hits : goal.overflow_add-hits
 overflow_add-hits c = record { fits = one_more _ _ _ c.if-list-hits.false (rw (size (goal.at.overflow_add-hits c).At-loop-at) c.well_formed.1.1.1.1.1.1.1.0.0) }
 
 pub overflow_add-steps : goal.overflow_add-steps
-overflow_add-steps c = record { fits = one_more _ _ _ (ltb-true _ _ c.if-steps-budget.true) c.ranges.budget.fits }
+overflow_add-steps c = record { fits = one_more _ _ _ c.if-steps-budget.true c.ranges.budget.fits }
 
 pub overflow_add-at : goal.overflow_add-at
 overflow_add-at c = record { fits = mark_fits _ _ c.requires.ready.few_bits (moved (goal.at.overflow_add-at c).Joined-x-last).1 }
 
 pub loop-at-smaller : goal.loop-at-smaller
-loop-at-smaller c = less_left _ _ (ltb-true _ _ c.if-steps-budget.true)
+loop-at-smaller c = less_left _ _ c.if-steps-budget.true
 
 pub loop-at-preserved : goal.loop-at-preserved
 loop-at-preserved c =
     let t = told (goal.at.loop-at-preserved c).Joined-x-last in
-    let u = one (goal.at.loop-at-preserved c).Joined-found in (
+    let j = (goal.at.loop-at-preserved c).Joined-x-last in
+    let u = one (goal.at.loop-at-preserved c).Joined-found (moved j).0 (hit j) (miss j) (room (goal.at.loop-at-preserved c).At-loop-at) in (
       more (goal.at.loop-at-preserved c).Then-steps-budget _ _ _ _ u,
       (moved (goal.at.loop-at-preserved c).Joined-x-last).1,
       rw t.2 t.0,
@@ -233,14 +212,14 @@ pub returns : goal.returns
 returns c =
     let a = c.args in
     let l = c.loop-at in
-    let end : a.known.n - a.known.m + 1 ≡ places (text_of (goal.at.returns c).Start) (pattern_of (goal.at.returns c).Start) = omega (arith, c.requires.ready.inside) in
-    let few = l.invariant.0.within in (
-      rw (c.cut.ensures, end) l.invariant.0,
-      λ one here.
+    let end : a.known.n - a.known.m + 1 ≡ places (text_in c.args.text.now c.args.known) (pattern_in c.args.pattern.now c.args.fixed.now c.args.known) = omega (arith, c.requires.ready.inside) in
+    let few = l.invariant.0.within in record {
+      advanced = rw (c.cut.ensures, end) l.invariant.0;
+      one_step = λ one here.
           rw (c.cut.ensures, end)
           (l.invariant.5
-          (⊎_elim
-          (λ u. let spent : a.budget ≤ l.steps = ltb-false _ _ u.1.left in omega arith)
-          (λ u. one_made l.steps l.at a.s.0 _ (omega arith) here (rw end at u.left) (λ e. (l.invariant.4 e).0))
-          c.loop-at-test.branch)),
-    )
+          (elim c.loop-at-test.branch [
+            then-loop-at-test+else-steps-budget u ↦ let spent : a.budget ≤ l.steps = u.if-steps-budget.false in omega arith
+          | else-loop-at-test u ↦ one_made l.steps l.at a.s.0 _ (omega arith) here (rw end at u.loop-at-test.false) (λ e. (l.invariant.4 e).0)
+          ]));
+    }

@@ -72,7 +72,7 @@ seen c =
     let w = pattern_in a.pattern.now a.fixed.now a.known in
     let zero = c.move_of-zero.ensures.move w refl ready.tables in
     let one = c.move_of-one.ensures.move w refl ready.tables in (
-      flagged_of (text_in a.text.now a.known) w a.cells.now c.loop-at.at c.scan-flags.result c.scan-flags.type-inv ready.tables c.scan-flags.ensures,
+      flagged_of (text_in a.text.now a.known) w a.cells.now c.loop-at.at c.scan-flags.result c.scan-flags.type_inv ready.tables c.scan-flags.ensures,
       c.next_mark-to.ensures.mark w refl zero one,
     )
 
@@ -84,7 +84,7 @@ none : (c : Then-flags-eq0)
 none c =
     let tested : let a = c.args in (c.loop-at.at < a.known.n - a.known.m + 1) × (c.loop-at.steps < a.budget) = let l = c.loop-at in let a = c.args in let both = c.loop-at-test.true in let more = ltb l.at (a.known.n - a.known.m + 1) in let left = ltb l.steps a.budget in (ltb-true l.at (a.known.n - a.known.m + 1) (and_left more left both), ltb-true l.steps a.budget (and_right more left both)) in
     let long : length c.loop-at.list ≡ length c.args.list.now = let l = c.loop-at in let a = c.args in writing_length a.list.now a.had l.invariant.found l.list l.hits l.invariant.writing in
-    let seen : let a = c.args in Flagged (text_in a.text.now a.known) (pattern_in a.pattern.now a.fixed.now a.known) c.loop-at.at c.scan-flags.result × (c.next_mark-to.result.0 ≡ next Wide (text_in a.text.now a.known) (pattern_in a.pattern.now a.fixed.now a.known) c.loop-at.at) = let ready = c.requires.ready in let a = c.args in let w = pattern_in a.pattern.now a.fixed.now a.known in let zero = c.move_of-zero.ensures.move w refl ready.tables in let one = c.move_of-one.ensures.move w refl ready.tables in ( flagged_of (text_in a.text.now a.known) w a.cells.now c.loop-at.at c.scan-flags.result c.scan-flags.type-inv ready.tables c.scan-flags.ensures, c.next_mark-to.ensures.mark w refl zero one, ) in
+    let seen : let a = c.args in Flagged (text_in a.text.now a.known) (pattern_in a.pattern.now a.fixed.now a.known) c.loop-at.at c.scan-flags.result × (c.next_mark-to.result.0 ≡ next Wide (text_in a.text.now a.known) (pattern_in a.pattern.now a.fixed.now a.known) c.loop-at.at) = let ready = c.requires.ready in let a = c.args in let w = pattern_in a.pattern.now a.fixed.now a.known in let zero = c.move_of-zero.ensures.move w refl ready.tables in let one = c.move_of-one.ensures.move w refl ready.tables in (flagged_of (text_in a.text.now a.known) w a.cells.now c.loop-at.at c.scan-flags.result c.scan-flags.type_inv ready.tables c.scan-flags.ensures, c.next_mark-to.ensures.mark w refl zero one) in
     let a = c.args in
     let l = c.loop-at in
     let w = pattern_in a.pattern.now a.fixed.now a.known in
@@ -110,23 +110,12 @@ pub settle-found-requires : goal.settle-found-requires
 settle-found-requires c =
     let ready = c.requires.ready in
     let l = c.loop-at in
-    let here = seen (goal.at.settle-found-requires c).After-scan-flags in (
-      omega (arith, tested (goal.at.settle-found-requires c).In-loop-at, ready.pattern.some_bits, ready.pattern.few_bits, ready.few_bits, ready.inside, long (goal.at.settle-found-requires c).At-loop-at, l.invariant.writing.fits),
-      (c.requires.head_of, here),
-    )
-
--- the steps with the one that this turn makes
-turned : (c : After-settle-found)
-    → let a = c.args in
-    let r = c.settle-found.result in
-    Advanced Wide (text_in a.text.now a.known) (pattern_in a.pattern.now a.fixed.now a.known) a.s.0 a.budget a.list.now a.had r.at.0 (counted r.full c.loop-at.steps) r.hits r.full c.settle-found.new.1.1.1.1.1.1.1.0
-turned c =
-    let tested : let a = c.args in (c.loop-at.at < a.known.n - a.known.m + 1) × (c.loop-at.steps < a.budget) = let l = c.loop-at in let a = c.args in let both = c.loop-at-test.true in let more = ltb l.at (a.known.n - a.known.m + 1) in let left = ltb l.steps a.budget in (ltb-true l.at (a.known.n - a.known.m + 1) (and_left more left both), ltb-true l.steps a.budget (and_right more left both)) in
-    let a = c.args in
-    let l = c.loop-at in
-    let test = tested in
-    advanced_step Wide (text_in a.text.now a.known) (pattern_in a.pattern.now a.fixed.now a.known) a.s.0 a.budget a.list.now a.had l.at l.steps l.hits l.list c.requires.s_bound.1
-    l.invariant _ _ _ _ (omega (arith, c.requires.ready.inside)) test.1 c.settle-found.ensures
+    let here = seen (goal.at.settle-found-requires c).After-scan-flags in record {
+      m_nonzero = omega (arith, tested (goal.at.settle-found-requires c).In-loop-at, ready.pattern.some_bits, ready.pattern.few_bits, ready.few_bits, ready.inside, long (goal.at.settle-found-requires c).At-loop-at, l.invariant.writing.fits);
+      head_of = c.requires.head_of;
+      flagged = here.0;
+      to_value = here.1;
+    }
 
 pub shape_of-list-then-found : goal.shape_of-list-then-found
 shape_of-list-then-found c = writing_length _ _ _ _ _ (turned (goal.at.shape_of-list-then-found c).After-settle-found).writing

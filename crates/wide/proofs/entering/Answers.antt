@@ -1,10 +1,10 @@
 -- `wide::entering` meets its contract: the pattern's bits, or their opposites, and ones at its wild bits and after it.
 -- Assumes nothing.
-use mathlib.Core.Logic.{⊎_elim}
 use native.Mathlib.Omega.{arith}
 use Rattle.matcher.specs.Progress.{pattern_of}
 use Rattle.wide.proofs.WideBytes.{Free, free_none, free_some, enters_past, enters_zero, enters_one}
 use Rattle.wide.proofs.entering.Goals as goal
+use Rattle.wide.proofs.entering.Goals.{then-m-q-2, else-m-q-2}
 
 pub returns-then-m-q : goal.returns-then-m-q
 returns-then-m-q c =
@@ -26,10 +26,10 @@ returns c =
     let small = (c.type_inv.pattern byte.result.0).fits in
     let few = (c.type_inv.fixed byte.result.0).fits in
     let free : Free w a.q c.if-m-q-2.free
-    = ⊎_elim
-    (λ e. rw e.1 (free_some w a.q byte.result.0 (omega arith) byte.ensures few (omega arith)))
-    (λ e. rw e.1 (free_none w a.q byte.result.0 (omega arith) byte.ensures few (omega (arith, e.0))))
-    c.if-m-q-2.branch in
+    = elim c.if-m-q-2.branch [
+      | then-m-q-2 e ↦ rw e.free-is (free_some w a.q byte.result.0 (omega arith) byte.ensures few (omega arith))
+      | else-m-q-2 e ↦ rw e.free-is (free_none w a.q byte.result.0 (omega arith) byte.ensures few (omega arith))
+    ] in
     (enters_zero w a.q c.if-m-q-2.free free (omega arith) byte.result.0 byte.ensures small, enters_one w a.q c.if-m-q-2.free free (omega arith) byte.result.0 byte.ensures small)
 
 pub overflow_cast-free : goal.overflow_cast-free

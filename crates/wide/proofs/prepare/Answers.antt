@@ -39,7 +39,7 @@ loop-q-preserved c =
     let made = c.enter in (
       omega arith,
       omega arith,
-      filled_more w a.cells.now l.cells made.new.1.1.1.1.1.1.0 l.q 8 l.zero l.one new.result.zero new.result.one l.invariant.2 made.ensures
+      filled_more w a.cells.now l.cells made.new.cells l.q 8 l.zero l.one new.result.zero new.result.one l.invariant.2 made.ensures
           (omega arith) (omega arith) l.invariant.3 l.invariant.4 new.ensures.0 new.ensures.1,
       before_moved w 0 l.q l.zero new.result.zero l.invariant.3 new.ensures.0,
       before_moved w 1 l.q l.one new.result.one l.invariant.4 new.ensures.1,
@@ -66,7 +66,7 @@ returns c =
     let w = pattern_of a.pattern.now a.fixed.now a.m in
     let l = c.loop-q in
     let made = c.enter-2 in
-    let f = filled_more w a.cells.now l.cells made.new.1.1.1.1.1.1.0 l.q (a.m + 63 - l.q) l.zero l.one 255 255 l.invariant.2 made.ensures
+    let f = filled_more w a.cells.now l.cells made.new.cells l.q (a.m + 63 - l.q) l.zero l.one 255 255 l.invariant.2 made.ensures
     (omega arith) (omega arith) l.invariant.3 l.invariant.4 (enters_past w 0 l.q (omega arith)) (enters_past w 1 l.q (omega arith)) in
     record {
       tables = record { flags_are = λ q b i u v h. f.flags q b i (omega arith) v h };

@@ -28,13 +28,10 @@ settle-requires c =
     let a = c.args in
     let w = pattern_in a.pattern.now a.fixed.now a.known in
     let zero = c.move_of-zero.ensures.move w refl ready.tables in
-    let one = c.move_of-one.ensures.move w refl ready.tables in (
-      omega (arith, ready.pattern.some_bits, ready.pattern.few_bits, ready.few_bits),
-      (c.requires.head_of, (flagged_of (text_in a.text.now a.known) w a.cells.now a.s.0 c.scan-flags.result c.scan-flags.type-inv ready.tables c.scan-flags.ensures, c.next_mark-to.ensures.mark w refl zero one)),
-    )
+    let one = c.move_of-one.ensures.move w refl ready.tables in record { m_nonzero = omega (arith, ready.pattern.some_bits, ready.pattern.few_bits, ready.few_bits); head_of = c.requires.head_of; flagged = flagged_of (text_in a.text.now a.known) w a.cells.now a.s.0 c.scan-flags.result c.scan-flags.type_inv ready.tables c.scan-flags.ensures; to_value = c.next_mark-to.ensures.mark w refl zero one }
 
 pub shape_of-list : goal.shape_of-list
-shape_of-list c = c.settle.auto.1.1.1.1.1.1.1.0
+shape_of-list c = c.settle.auto.list
 
 pub returns : goal.returns
 returns c = c.settle.ensures
