@@ -117,6 +117,19 @@ settle-found-requires c =
       to_value = here.1;
     }
 
+-- the steps with the one that this turn makes
+turned : (c : After-settle-found)
+    → let a = c.args in
+    let r = c.settle-found.result in
+    Advanced Wide (text_in a.text.now a.known) (pattern_in a.pattern.now a.fixed.now a.known) a.s.0 a.budget a.list.now a.had r.at.0 (counted r.full c.loop-at.steps) r.hits r.full c.settle-found.new.list
+turned c =
+    let tested : let a = c.args in (c.loop-at.at < a.known.n - a.known.m + 1) × (c.loop-at.steps < a.budget) = let l = c.loop-at in let a = c.args in let both = c.loop-at-test.true in let more = ltb l.at (a.known.n - a.known.m + 1) in let left = ltb l.steps a.budget in (ltb-true l.at (a.known.n - a.known.m + 1) (and_left more left both), ltb-true l.steps a.budget (and_right more left both)) in
+    let a = c.args in
+    let l = c.loop-at in
+    let test = tested in
+    advanced_step Wide (text_in a.text.now a.known) (pattern_in a.pattern.now a.fixed.now a.known) a.s.0 a.budget a.list.now a.had l.at l.steps l.hits l.list c.requires.s_bound.1
+    l.invariant _ _ _ _ (omega (arith, c.requires.ready.inside)) test.1 c.settle-found.ensures
+
 pub shape_of-list-then-found : goal.shape_of-list-then-found
 shape_of-list-then-found c = writing_length _ _ _ _ _ (turned (goal.at.shape_of-list-then-found c).After-settle-found).writing
 
