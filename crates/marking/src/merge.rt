@@ -41,8 +41,8 @@ fn eight_same(key: &[u32], i: usize, sheet: &[u32], j: usize) -> bool
 // equal, so what was passed beyond one a step is in both lists. An index goes on by 1 less a strict comparison, which
 // compiles to a subtraction with borrow: the shortest way from one pair of positions to the next.
 fn steps(key: &[u32], i: usize, sheet: &[u32], j: usize, count: usize) -> Met
-    requires key_value { rising key.now ≡ true }
-    requires sheet_value { rising sheet.now ≡ true }
+    requires key_rises { rising key.now ≡ true }
+    requires sheet_rises { rising sheet.now ≡ true }
     requires i_in_bounds { i < length key.now }
     requires j_in_bounds { j < length sheet.now }
     requires count_nonzero { 0 < count }
@@ -68,8 +68,8 @@ fn steps(key: &[u32], i: usize, sheet: &[u32], j: usize, count: usize) -> Met
 
 // Passes eight positions that are the same in both lists, or makes `count` steps.
 fn pass(key: &[u32], i: usize, sheet: &[u32], j: usize, count: usize) -> Met
-    requires key_value { rising key.now ≡ true }
-    requires sheet_value { rising sheet.now ≡ true }
+    requires key_rises { rising key.now ≡ true }
+    requires sheet_rises { rising sheet.now ≡ true }
     requires i_in_bounds { i < length key.now }
     requires j_in_bounds { j < length sheet.now }
     requires count_nonzero { 0 < count }
@@ -90,8 +90,8 @@ fn pass(key: &[u32], i: usize, sheet: &[u32], j: usize, count: usize) -> Met
 
 // How many positions of the key are on the sheet.
 pub(crate) fn right(key: &[u32], sheet: &[u32]) -> usize
-    requires key_value { rising key.now ≡ true }
-    requires sheet_value { rising sheet.now ≡ true }
+    requires key_rises { rising key.now ≡ true }
+    requires sheet_rises { rising sheet.now ≡ true }
     ensures { result ≡ length (both key.now sheet.now) }
 {
     let mut i: usize = 0;

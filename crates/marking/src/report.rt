@@ -18,8 +18,8 @@ pub(crate) struct SheetMarks {
 
 // Marks one sheet. Each list is its shared positions and the others, so that the merge need count the shared ones alone.
 fn sheet_marks(key: &[u32], sheet: &[u32]) -> SheetMarks
-    requires key_value { rising key.now ≡ true }
-    requires sheet_value { rising sheet.now ≡ true }
+    requires key_rises { rising key.now ≡ true }
+    requires sheet_rises { rising sheet.now ≡ true }
     ensures { Sheet key.now sheet.now result }
 {
     let right = merge::right(key, sheet);
@@ -42,11 +42,11 @@ fn put(target: &mut [u32], at: usize, m: SheetMarks)
 
 // Marks every sheet in turn.
 pub(crate) fn write(key: &[u32], sheets: &[u32], counts: &[u64], target: &mut [u32]) -> Totals
-    requires counts_len_bound { length counts.now ≤ 256 }
-    requires counts_in_bounds { sum counts.now ≤ length sheets.now }
-    requires key_value { rising key.now ≡ true }
-    requires counts_value { all_rise (sheets_of sheets.now counts.now) ≡ true }
-    requires counts_in_bounds_2 { 3 * length counts.now ≤ length target.old }
+    requires few_sheets { length counts.now ≤ 256 }
+    requires cells_enough { sum counts.now ≤ length sheets.now }
+    requires key_rises { rising key.now ≡ true }
+    requires sheets_rise { all_rise (sheets_of sheets.now counts.now) ≡ true }
+    requires report_fits { 3 * length counts.now ≤ length target.old }
     ensures totals { totalled result ≡ totals_of (all_marks key.now sheets.now counts.now) }
     ensures stored { target.new ≡ sets target.old 0 (report_of (all_marks key.now sheets.now counts.now)) }
 {

@@ -63,8 +63,8 @@ fn judge(file: &[u8], start: usize, count: usize) -> End
 
 // Stores the positions of a file that was judged good. So each number has a byte, and no position is held to the limit again.
 fn store(file: &[u8], start: usize, count: usize, cells: &mut [u32])
-    requires file_value { accepts (read_body count 0 (drop start file.now)) ≡ true }
-    requires count_in_bounds { count ≤ length cells.old }
+    requires file_good { accepts (read_body count 0 (drop start file.now)) ≡ true }
+    requires cells_enough { count ≤ length cells.old }
     ensures { cells.new ≡ sets cells.old 0 (positions_of (read_body count 0 (drop start file.now))) }
 {
     let mut at = start;

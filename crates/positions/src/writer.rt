@@ -49,8 +49,8 @@ pub fn rises(list: &[u32]) -> bool
 
 // Stores the file of a list that the writer takes into a target that has room for it.
 fn store(list: &[u32], target: &mut [u8])
-    requires list_value { rising list.now ≡ true }
-    requires list_in_bounds { length (encode list.now) ≤ length target.old }
+    requires list_rises { rising list.now ≡ true }
+    requires file_fits { length (encode list.now) ≤ length target.old }
     ensures { target.new ≡ sets target.old 0 (encode list.now) }
 {
     let mut at = number::put(target, 0, list.len() as u32);

@@ -34,7 +34,7 @@ store-requires c =
     let a = c.args in
     let e = sym c.read-first.ensures ∙ ap (reading_in a.file.now) c.in-Number.is in
     let end = sym (ap (end_in a.file.now) c.in-At.is) ∙ c.judge-end.ensures in
-    record { file_value = (judged_good a.file.now _ _ c.in-At.after e end (omega (arith, c.if-after-file.false))).2.accepted; count_in_bounds = omega (arith, c.if-cells-needed.false) }
+    record { file_good = (judged_good a.file.now _ _ c.in-At.after e end (omega (arith, c.if-after-file.false))).2.accepted; cells_enough = omega (arith, c.if-cells-needed.false) }
 
 -- the count has a fault
 pub returns-in-Refused : goal.returns-in-Refused

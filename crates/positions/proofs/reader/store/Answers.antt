@@ -14,7 +14,7 @@ use Rattle.positions.proofs.reader.store.Goals as goal
 use Rattle.positions.proofs.reader.store.Goals.{In-Number}
 
 pub loop-left-init : goal.loop-left-init
-loop-left-init c = (c.requires.file_value, refl, refl, omega arith, omega arith)
+loop-left-init c = (c.requires.file_good, refl, refl, omega arith, omega arith)
 
 pub read_here-found-requires : goal.read_here-found-requires
 read_here-found-requires c =

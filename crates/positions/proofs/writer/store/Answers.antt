@@ -11,16 +11,16 @@ use Rattle.positions.proofs.writer.store.Goals as goal
 
 pub overflow_cast-list : goal.overflow_cast-list
 unfolding rising
-overflow_cast-list c = omega (arith, rises_length 0 c.args.list.now (omega arith) c.requires.list_value)
+overflow_cast-list c = omega (arith, rises_length 0 c.args.list.now (omega arith) c.requires.list_rises)
 
 pub put-at-requires : goal.put-at-requires
-put-at-requires c = omega (arith, size_list c.args.list.now, c.requires.list_in_bounds)
+put-at-requires c = omega (arith, size_list c.args.list.now, c.requires.file_fits)
 
 pub loop-i-init : goal.loop-i-init
 unfolding rising
 loop-i-init c =
     let put = c.put-at in
-    (c.requires.list_value, refl, omega (arith, size_list c.args.list.now, c.requires.list_in_bounds, put.ensures, put.auto.target), refl)
+    (c.requires.list_rises, refl, omega (arith, size_list c.args.list.now, c.requires.file_fits, put.ensures, put.auto.target), refl)
 
 pub bounds-list-i : goal.bounds-list-i
 bounds-list-i c = omega arith

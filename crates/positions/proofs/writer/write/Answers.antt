@@ -18,7 +18,7 @@ pub store-requires : goal.store-requires
 store-requires c =
     let a = c.args in
     let k = counted_rises a.list.now _ (sym (ap size_gives c.in-Bytes.is) ∙ c.size-needed.ensures) in
-    record { list_value = k.0; list_in_bounds = omega (arith, k.1) }
+    record { list_rises = k.0; file_fits = omega (arith, k.1) }
 
 pub returns-in-Refused : goal.returns-in-Refused
 returns-in-Refused c =
