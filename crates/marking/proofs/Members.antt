@@ -1,6 +1,6 @@
 -- Laws of membership: what two lists share, and what is on one of them only.
 use Prim.Native.Nat.{ℕ, zero, suc, ◌+◌, ◌≤◌, ◌<◌}
-use mathlib.Core.Path.{◌≡◌, refl, sym, ap, ◌∙◌}
+use mathlib.Core.Path.{◌≡◌, refl, sym, ap, ◌∙◌, subst}
 use mathlib.Core.Bool.{Bool, true, false, not, false≢true, or-true}
 use mathlib.Core.Logic.{◌↔◌, ◌⊎◌, inl, inr}
 use mathlib.Core.List.Memᴰ
@@ -102,7 +102,9 @@ both_swapped (suc k) next next' (p ∷ ps) (q ∷ qs) h e f =
             | yes m ↦ both_more p q ps qs t.2 m ∙ both_swapped k next (q + 1) (p ∷ ps) qs (omega arith) e u.2 ∙ sym (both_less q p qs ps t.2 m)
             | no m ↦
                 let s : p ≡ q = omega arith in
-                rw s (both_same q ps qs (rw s at t.2) ∙ ap (λ (l : List ℕ). q ∷ l) (both_swapped k (p + 1) (q + 1) ps qs (omega arith) t.2 u.2) ∙ sym (both_same q qs ps u.2))
+                let swapped : both (q ∷ ps) (q ∷ qs) ≡ both (q ∷ qs) (q ∷ ps) =
+                both_same q ps qs (rw s at t.2) ∙ ap (λ (l : List ℕ). q ∷ l) (both_swapped k (p + 1) (q + 1) ps qs (omega arith) t.2 u.2) ∙ sym (both_same q qs ps u.2) in
+                subst (λ (x : ℕ). both (x ∷ ps) (q ∷ qs) ≡ both (q ∷ qs) (x ∷ ps)) (sym s) swapped
           ]
     ]
 

@@ -3,7 +3,7 @@
 -- Assumes nothing.
 use mathlib.Core.Path.{sym, ◌∙◌}
 use native.Mathlib.Omega.{arith}
-use borrow.Author.Tests.{not-true, not-false, eqb-true}
+use borrow.Author.Tests.{eqb-true}
 use lib.ListN.{length}
 use Rattle.positions.specs.Rising.{rising}
 use Rattle.positions.proofs.Rising.{and_both}
@@ -20,42 +20,48 @@ returns-then-counts-gt-SHEETS c =
 pub returns-then-not-add_up : goal.returns-then-not-add_up
 returns-then-not-add_up c =
     let a = c.args in
-    let differ = sym c.add_up.ensures ∙ not-true c.add_up.result c.if-not-add_up.true in
+    let differ = sym c.add_up.ensures ∙ c.if-not-add_up.true in
     marks_refused a.key.now a.sheets.now a.counts.now a.target.now CountsDiffer (counts_differ a.key.now a.sheets.now a.counts.now (length a.target.now) (omega arith) differ)
 
 pub all_rise-requires : goal.all_rise-requires
 all_rise-requires c =
     let a = c.args in
-    let same = sym c.add_up.ensures ∙ not-false c.add_up.result c.if-not-add_up.false in
+    let same = sym c.add_up.ensures ∙ c.if-not-add_up.false in
     omega (arith, eqb-true (sum a.counts.now) (length a.sheets.now) same)
 
 pub returns-then-not-all_rise : goal.returns-then-not-all_rise
 returns-then-not-all_rise c =
     let a = c.args in
-    let same = sym c.add_up.ensures ∙ not-false c.add_up.result c.if-not-add_up.false in
-    let falls = sym c.all_rise.ensures ∙ not-true c.all_rise.result c.if-not-all_rise.true in
+    let same = sym c.add_up.ensures ∙ c.if-not-add_up.false in
+    let falls = sym c.all_rise.ensures ∙ c.if-not-all_rise.true in
     marks_refused a.key.now a.sheets.now a.counts.now a.target.now ListNotRising (not_rising a.key.now a.sheets.now a.counts.now (length a.target.now) (omega arith) same falls)
 
 pub returns-then-target-counts : goal.returns-then-target-counts
 returns-then-target-counts c =
     let a = c.args in
-    let same = sym c.add_up.ensures ∙ not-false c.add_up.result c.if-not-add_up.false in
-    let rise = sym c.all_rise.ensures ∙ not-false c.all_rise.result c.if-not-all_rise.false in
+    let same = sym c.add_up.ensures ∙ c.if-not-add_up.false in
+    let rise = sym c.all_rise.ensures ∙ c.if-not-all_rise.false in
     marks_refused a.key.now a.sheets.now a.counts.now a.target.now TargetTooShort (report_short a.key.now a.sheets.now a.counts.now (length a.target.now) (omega arith) same rise c.if-target-counts.true)
 
 pub write-requires : goal.write-requires
 write-requires c =
     let a = c.args in
-    let same = sym c.add_up.ensures ∙ not-false c.add_up.result c.if-not-add_up.false in
-    let rise = sym c.all_rise.ensures ∙ not-false c.all_rise.result c.if-not-all_rise.false in
+    let same = sym c.add_up.ensures ∙ c.if-not-add_up.false in
+    let rise = sym c.all_rise.ensures ∙ c.if-not-all_rise.false in
     let both = and_both (rising a.key.now) (all_rise (sheets_of a.sheets.now a.counts.now)) rise in
-    (omega arith, (omega (arith, eqb-true (sum a.counts.now) (length a.sheets.now) same), (both.0, (both.1, c.if-target-counts.false))))
+    record {
+      few_sheets = omega arith;
+      cells_enough = omega (arith, eqb-true (sum a.counts.now) (length a.sheets.now) same);
+      key_rises = both.0;
+      sheets_rise = both.1;
+      report_fits = c.if-target-counts.false;
+    }
 
 pub returns : goal.returns
 returns c =
     let a = c.args in
-    let same = sym c.add_up.ensures ∙ not-false c.add_up.result c.if-not-add_up.false in
-    let rise = sym c.all_rise.ensures ∙ not-false c.all_rise.result c.if-not-all_rise.false in
+    let same = sym c.add_up.ensures ∙ c.if-not-add_up.false in
+    let rise = sym c.all_rise.ensures ∙ c.if-not-all_rise.false in
     let write = c.write in
     let fits = c.if-target-counts.false in
-    rw write.ensures.1 (marks_all a.key.now a.sheets.now a.counts.now a.target.now write.result (all_marked a.key.now a.sheets.now a.counts.now (length a.target.now) (omega arith) same rise fits) write.ensures.0 fits)
+    rw write.ensures.stored (marks_all a.key.now a.sheets.now a.counts.now a.target.now write.result (all_marked a.key.now a.sheets.now a.counts.now (length a.target.now) (omega arith) same rise fits) write.ensures.totals fits)

@@ -1,17 +1,16 @@
 use mathlib.Core.Path.{sym, ap, ◌∙◌}
 use native.Mathlib.Omega.{arith}
-use borrow.Author.Tests.{not-true, not-false}
 use lib.ListN.{drop}
 use Rattle.marking.specs.Sitting.{all_rise}
 use Rattle.marking.proofs.Counting.{sum_here, rise_here, sheets_end}
 use Rattle.marking.proofs.judge.all_rise.Goals as goal
 
 pub returns-then-not-rises : goal.returns-then-not-rises
-returns-then-not-rises c = rw (sym c.rises.ensures ∙ not-true c.rises.result c.if-not-rises.true)
+returns-then-not-rises c = rw (sym c.rises.ensures ∙ c.if-not-rises.true)
 
 pub loop-i-init : goal.loop-i-init
 loop-i-init c =
-    let rises = sym c.rises.ensures ∙ not-false c.rises.result c.if-not-rises.false in
+    let rises = sym c.rises.ensures ∙ c.if-not-rises.false in
     (rw rises, omega (arith, c.requires))
 
 pub bounds-counts-i : goal.bounds-counts-i
@@ -23,18 +22,15 @@ overflow_add-end c = omega (arith, sum_here c.args.counts.now c.loop-i.i c.loop-
 pub slice_bounds-rises-count : goal.slice_bounds-rises-count
 slice_bounds-rises-count c = omega arith
 
-part_rises_start : tie.Need-slice-bounds-rises-start invariant-loop decreases-loop
-part_rises_start c = omega arith
-
-part_rises_end : tie.Need-slice-bounds-rises-end invariant-loop decreases-loop
-part_rises_end c = omega (arith, sum_here c.before.before.before.before.before.before.before.before.args.counts.now c.before.before.loop.i c.before.loop-test.true)
+pub slice_bounds-rises-end : goal.slice_bounds-rises-end
+slice_bounds-rises-end c = omega (arith, sum_here c.args.counts.now c.loop-i.i c.loop-i-test.true)
 
 pub returns-then-not-rises-2 : goal.returns-then-not-rises-2
 returns-then-not-rises-2 c =
     let a = c.args in
     let l = c.loop-i in
     let here = rise_here a.counts.now l.i c.loop-i-test.true a.sheets.now l.at in
-    let falls = sym c.rises-in-loop-i.ensures ∙ not-true c.rises-in-loop-i.result c.if-not-rises-2.true in
+    let falls = sym c.rises-in-loop-i.ensures ∙ c.if-not-rises-2.true in
     sym (rw falls at here) ∙ l.invariant.0
 
 pub overflow_add-i : goal.overflow_add-i
@@ -49,7 +45,7 @@ loop-i-preserved c =
     let l = c.loop-i in
     let inside = c.loop-i-test.true in
     let here = rise_here a.counts.now l.i inside a.sheets.now l.at in
-    let rises = sym c.rises-in-loop-i.ensures ∙ not-false c.rises-in-loop-i.result c.if-not-rises-2.false in
+    let rises = sym c.rises-in-loop-i.ensures ∙ c.if-not-rises-2.false in
     (sym (rw rises at here) ∙ l.invariant.0, omega (arith, sum_here a.counts.now l.i inside))
 
 pub returns : goal.returns

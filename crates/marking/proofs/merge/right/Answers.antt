@@ -22,7 +22,13 @@ pass-met-requires c =
     let a = c.args in
     let l = c.loop-i in
     let left = and_both (ltb l.i (length a.key.now)) (ltb l.j (length a.sheet.now)) c.loop-i-test.true in
-    (c.requires.key_rises, (c.requires.sheet_rises, (ltb-true l.i (length a.key.now) left.0, (ltb-true l.j (length a.sheet.now) left.1, l.invariant.3))))
+    record {
+      key_rises = c.requires.key_rises;
+      sheet_rises = c.requires.sheet_rises;
+      i_in_bounds = ltb-true l.i (length a.key.now) left.0;
+      j_in_bounds = ltb-true l.j (length a.sheet.now) left.1;
+      count_nonzero = l.invariant.3;
+    }
 
 pub overflow_add-found : goal.overflow_add-found
 overflow_add-found c = omega arith

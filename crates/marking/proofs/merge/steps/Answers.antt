@@ -5,33 +5,28 @@ use mir.Val.{bool_byte}
 use lib.Dec.{ltb}
 use lib.ListN.{length, get_or}
 use Rattle.marking.proofs.Merging.{step_stays, step_counted, Goes, goes, stopped}
-use Rattle.marking.proofs.merge.steps.Reads as reads
-use Rattle.marking.proofs.merge.steps.Lts as lts
 use Rattle.marking.proofs.merge.steps.Goals as goal
+use Rattle.marking.proofs.merge.steps.Goals.{In-loop-step}
 
 pub loop-step-init : goal.loop-step-init
 loop-step-init c = (omega arith, omega arith, omega arith, omega arith, omega arith, omega arith, omega arith, omega arith)
 
-pub bounds-key-x : goal.bounds-key-x
-bounds-key-x c =
+-- what the loop's test says
+going : (c : In-loop-step)
+    → Goes c.loop-step.step c.args.count c.loop-step.x (length c.args.key.now) c.loop-step.y (length c.args.sheet.now)
+going c =
     let a = c.args in
     let l = c.loop-step in
-    let g = goes l.step a.count l.x (length a.key.now) l.y (length a.sheet.now) c.loop-step-test.true in
-    g.in_key
+    goes l.step a.count l.x (length a.key.now) l.y (length a.sheet.now) c.loop-step-test.true
 
--- what the loop's test says, once both positions are read
-going : (c : lts.After-shared-slice-known2 reads.Pre reads.Post invariant-loop decreases-loop)
-    → Goes c.before.before.before.loop.step c.before.before.before.before.args.count c.before.before.before.loop.x (length c.before.before.before.before.args.key.now) c.before.before.before.loop.y (length c.before.before.before.before.args.sheet.now)
-going c =
-    let a = c.before.before.before.before.args in
-    let l = c.before.before.before.loop in
-    goes l.step a.count l.x (length a.key.now) l.y (length a.sheet.now) c.before.before.loop-test.true
+pub bounds-key-x : goal.bounds-key-x
+bounds-key-x c = (going (goal.at.bounds-key-x c).In-loop-step).in_key
 
 pub bounds-sheet-y : goal.bounds-sheet-y
-bounds-sheet-y c = (going c).in_sheet
+bounds-sheet-y c = (going (goal.at.bounds-sheet-y c).In-loop-step).in_sheet
 
 pub overflow_add-x : goal.overflow_add-x
-overflow_add-x c = let g = going c in omega arith
+overflow_add-x c = let g = going (goal.at.overflow_add-x c).In-loop-step in omega arith
 
 pub overflow_sub-x : goal.overflow_sub-x
 overflow_sub-x c =
@@ -41,7 +36,7 @@ overflow_sub-x c =
     omega arith
 
 pub overflow_add-y : goal.overflow_add-y
-overflow_add-y c = let g = going c in omega arith
+overflow_add-y c = let g = going (goal.at.overflow_add-y c).In-loop-step in omega arith
 
 pub overflow_sub-y : goal.overflow_sub-y
 overflow_sub-y c =
@@ -51,23 +46,22 @@ overflow_sub-y c =
     omega arith
 
 pub overflow_add-step : goal.overflow_add-step
-overflow_add-step c = let g = going c in omega arith
+overflow_add-step c = let g = going (goal.at.overflow_add-step c).In-loop-step in omega arith
 
 pub loop-step-smaller : goal.loop-step-smaller
-loop-step-smaller c = let g = going c in omega arith
+loop-step-smaller c = let g = going (goal.at.loop-step-smaller c).In-loop-step in omega arith
 
 pub loop-step-preserved : goal.loop-step-preserved
 loop-step-preserved c =
     let a = c.args in
     let l = c.loop-step in
-    let g = going c in
+    let g = going (goal.at.loop-step-preserved c).In-loop-step in
     let p = get_or a.key.now l.x 0 in
     let q = get_or a.sheet.now l.y 0 in
     let stays = step_stays p q in
     let x = l.x + 1 - bool_byte (ltb q p) in
     let y = l.y + 1 - bool_byte (ltb p q) in
-    let pre = c.requires in
-    let counted = step_counted a.key.now a.sheet.now l.x l.y g.in_key g.in_sheet pre.0 pre.1.0 x y (omega arith) (omega arith) in
+    let counted = step_counted a.key.now a.sheet.now l.x l.y g.in_key g.in_sheet c.requires.key_rises c.requires.sheet_rises x y (omega arith) (omega arith) in
     (omega arith, omega arith, omega arith, omega arith, omega arith, omega arith, omega arith, omega arith)
 
 pub overflow_sub-result : goal.overflow_sub-result

@@ -12,8 +12,7 @@ use Rattle.marking.proofs.report.write.Goals as goal
 
 pub loop-i-init : goal.loop-i-init
 loop-i-init c =
-    let pre = c.requires in
-    (omega arith, omega arith, pre.1.1.1.0, refl, refl, omega arith, omega arith, omega arith, omega arith, omega arith, omega arith)
+    (omega arith, omega arith, c.requires.sheets_rise, refl, refl, omega arith, omega arith, omega arith, omega arith, omega arith, omega arith)
 
 pub bounds-counts-i : goal.bounds-counts-i
 bounds-counts-i c = omega arith
@@ -28,13 +27,10 @@ overflow_add-end c =
 pub slice_bounds-sheet_marks-count : goal.slice_bounds-sheet_marks-count
 slice_bounds-sheet_marks-count c = omega arith
 
-part_sheet_marks_start : tie.Need-slice-bounds-sheet-marks-start invariant-loop decreases-loop
-part_sheet_marks_start c = omega arith
-
-part_sheet_marks_end : tie.Need-slice-bounds-sheet-marks-end invariant-loop decreases-loop
-part_sheet_marks_end c =
-    let a = c.before.before.before.before.before.before.before.args in
-    let l = c.before.before.loop in
+pub slice_bounds-sheet_marks-end : goal.slice_bounds-sheet_marks-end
+slice_bounds-sheet_marks-end c =
+    let a = c.args in
+    let l = c.loop-i in
     let inside : l.i < length a.counts.now = omega arith in
     omega (arith, sum_here a.counts.now l.i inside)
 
@@ -43,7 +39,7 @@ sheet_marks-m-requires c =
     let a = c.args in
     let l = c.loop-i in
     let inside : l.i < length a.counts.now = omega arith in
-    record { key_rises = c.requires.cells_enough.1.0; sheet_rises = (rise_taken a.counts.now l.i inside a.sheets.now l.at l.invariant.2).0 }
+    record { key_rises = c.requires.key_rises; sheet_rises = (rise_taken a.counts.now l.i inside a.sheets.now l.at l.invariant.2).0 }
 
 pub overflow_mul-i : goal.overflow_mul-i
 overflow_mul-i c = omega arith
@@ -57,7 +53,7 @@ overflow_add-right c =
     let l = c.loop-i in
     let inside : l.i < length a.counts.now = omega arith in
     let sheet = take (l.at + get_or a.counts.now l.i 0 - l.at) (drop l.at a.sheets.now) in
-    let few = small a.key.now sheet c.requires.cells_enough.1.0 (rise_taken a.counts.now l.i inside a.sheets.now l.at l.invariant.2).0 in
+    let few = small a.key.now sheet c.requires.key_rises (rise_taken a.counts.now l.i inside a.sheets.now l.at l.invariant.2).0 in
     omega (arith, c.sheet_marks-m.ensures.right_is)
 
 pub overflow_add-missed : goal.overflow_add-missed
@@ -66,7 +62,7 @@ overflow_add-missed c =
     let l = c.loop-i in
     let inside : l.i < length a.counts.now = omega arith in
     let sheet = take (l.at + get_or a.counts.now l.i 0 - l.at) (drop l.at a.sheets.now) in
-    let few = small a.key.now sheet c.requires.cells_enough.1.0 (rise_taken a.counts.now l.i inside a.sheets.now l.at l.invariant.2).0 in
+    let few = small a.key.now sheet c.requires.key_rises (rise_taken a.counts.now l.i inside a.sheets.now l.at l.invariant.2).0 in
     omega (arith, c.sheet_marks-m.ensures.missed_is)
 
 pub overflow_add-false_positives : goal.overflow_add-false_positives
@@ -75,7 +71,7 @@ overflow_add-false_positives c =
     let l = c.loop-i in
     let inside : l.i < length a.counts.now = omega arith in
     let sheet = take (l.at + get_or a.counts.now l.i 0 - l.at) (drop l.at a.sheets.now) in
-    let few = small a.key.now sheet c.requires.cells_enough.1.0 (rise_taken a.counts.now l.i inside a.sheets.now l.at l.invariant.2).0 in
+    let few = small a.key.now sheet c.requires.key_rises (rise_taken a.counts.now l.i inside a.sheets.now l.at l.invariant.2).0 in
     omega (arith, c.sheet_marks-m.ensures.false_is)
 
 pub overflow_add-i : goal.overflow_add-i
@@ -90,7 +86,7 @@ loop-i-preserved c =
     let l = c.loop-i in
     let inside : l.i < length a.counts.now = omega arith in
     let sheet = take (l.at + get_or a.counts.now l.i 0 - l.at) (drop l.at a.sheets.now) in
-    let few = small a.key.now sheet c.requires.cells_enough.1.0 (rise_taken a.counts.now l.i inside a.sheets.now l.at l.invariant.2).0 in
+    let few = small a.key.now sheet c.requires.key_rises (rise_taken a.counts.now l.i inside a.sheets.now l.at l.invariant.2).0 in
     let m = c.sheet_marks-m in
     let rest = all_marks a.key.now (drop (l.at + get_or a.counts.now l.i 0) a.sheets.now) (drop (l.i + 1) a.counts.now) in
     let here = marks_here a.counts.now l.i inside a.key.now a.sheets.now l.at in
@@ -99,7 +95,7 @@ loop-i-preserved c =
       omega arith,
       omega (arith, sum_here a.counts.now l.i inside),
       (rise_taken a.counts.now l.i inside a.sheets.now l.at l.invariant.2).1,
-      put.auto.0 ∙ l.invariant.3,
+      put.auto.target ∙ l.invariant.3,
       (λ z. sets (put.ensures z) (3 * (l.i + 1)) (report_of rest))
           ∙ report_step l.target l.i mark rest m.result.right m.result.missed m.result.false_positives m.ensures.right_is m.ensures.missed_is m.ensures.false_is
           ∙ sym (ap (λ (ms : List Marks). sets l.target (3 * l.i) (report_of ms)) here)
