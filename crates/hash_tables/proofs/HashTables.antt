@@ -10,7 +10,7 @@ use native.Mathlib.Nat.{mod-eq_of_lt, mul-add-mod_self_right}
 use native.Mathlib.Numerals.{add-one}
 use native.Mathlib.Decide.{dec_le, ℕ_discrete}
 use native.Mathlib.Omega.{arith}
-use lib.Pow.{pow_mono, pow-add, high}
+use lib.Pow.{pow_mono, pow-add}
 use lib.ListN.{length, get_or, set, drop, take, length-set, get_or-append}
 use lib.Seq.{paste, get_or-set_same, get_or-set_other, get_or-take, get_or-append-add, length-take-le, length_paste_head, length-paste, drop-set-lt, drop-paste, drop-drop}
 use Rattle.bits.specs.Packed.{bits_at}

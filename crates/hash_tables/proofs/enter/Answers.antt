@@ -30,7 +30,7 @@ pub loop-r-init : goal.loop-r-init
 loop-r-init c =
     let a = c.args in
     let all : a.d - 0 ≡ a.d = omega arith in
-    (omega arith, c.word_at-x.ensures ∙ shifted_none a.pattern.now (a.m - 8 - a.d), rw all c.requires.all_fixed.1)
+    (omega arith, c.word_at-x.ensures ∙ shifted_none a.pattern.now (a.m - 8 - a.d), rw all c.requires.entered)
 
 pub offset_bounds-cells-x : goal.offset_bounds-cells-x
 offset_bounds-cells-x c = omega (arith, value_lt c)
@@ -45,7 +45,7 @@ loop-r-preserved c =
     let less : a.d - (l.r + 1) ≡ a.d - l.r - 1 = omega arith in (
       omega arith,
       ap (λ (y : ℕ). (y * 2 ^ 1) % 2 ^ 64) l.invariant.1 ∙ shifted_more a.pattern.now (a.m - 8 - a.d) l.r (omega arith),
-      rw less (entered_more (pattern_of a.pattern.now a.fixed.now a.m) c.requires.all_fixed.0 a.cells.now l.cells (a.d - l.r) _ l.invariant.2 (omega arith) (omega arith) (omega arith) (value c)),
+      rw less (entered_more (pattern_of a.pattern.now a.fixed.now a.m) c.requires.all_fixed a.cells.now l.cells (a.d - l.r) _ l.invariant.2 (omega arith) (omega arith) (omega arith) (value c)),
     )
 
 pub shape_of-cells : goal.shape_of-cells

@@ -49,7 +49,7 @@ pub returns : goal.returns
 returns c =
     let l = c.loop-g in
     record {
-      words = words_same _ (c.args.d + 1) 4 262 c.line_up.new.1.1.1.1.0 l.cells c.line_up.ensures.0 (λ i from to. l.invariant.1.low i (omega arith));
+      words = words_same _ (c.args.d + 1) 4 262 c.line_up.new.cells l.cells c.line_up.ensures.0 (λ i from to. l.invariant.1.low i (omega arith));
       unions = λ g inside. l.invariant.2 g (omega arith);
       only = only (goal.at.returns c).At-loop-g;
     }

@@ -6,7 +6,7 @@ use Rattle.hash_tables.proofs.prepare.Goals as goal
 
 pub prepare_fixed-requires : goal.prepare_fixed-requires
 prepare_fixed-requires c =
-    (c.requires.good_pattern, (c.all_fixed.ensures.0 c.if-all_fixed.true, omega arith))
+    record { good_pattern = c.requires.good_pattern; all_fixed = c.all_fixed.ensures.0 c.if-all_fixed.true; in_bounds = omega arith }
 
 pub shape_of-cells-then-all_fixed : goal.shape_of-cells-then-all_fixed
 shape_of-cells-then-all_fixed c = c.prepare_fixed.ensures.size

@@ -7,17 +7,17 @@ use Rattle.matcher.specs.Progress.{pattern_of}
 use Rattle.hash_tables.proofs.HashValues.{long_enough}
 use Rattle.hash_tables.proofs.HashTables.{entered_here, entered_then}
 use Rattle.hash_tables.proofs.prepare_fixed.Goals as goal
-use Rattle.hash_tables.proofs.prepare_fixed.Goals.{After-slice_known-3-1, At-loop-d}
+use Rattle.hash_tables.proofs.prepare_fixed.Goals.{After-enter-2, At-loop-d}
 
 -- room for the table at each turn
 room : (c : At-loop-d) → 256 ≤ length c.loop-d.cells
 room c =
-    omega (arith, c.loop-d.invariant.1.size, c.prepare_ends.ensures.size, c.requires.all_fixed.1)
+    omega (arith, c.loop-d.invariant.1.size, c.prepare_ends.ensures.size, c.requires.in_bounds)
 
 -- what the last call leaves
-all : (c : After-slice_known-3-1)
+all : (c : After-enter-2)
     → let a = c.args in
-    Entered (pattern_of a.pattern.now a.fixed.now a.m) a.cells.now c.enter-2.new.1.1.1.1.1.0 0
+    Entered (pattern_of a.pattern.now a.fixed.now a.m) a.cells.now c.enter-2.new.cells 0
 all c =
     let l = c.loop-d in
     let none : l.d - l.d ≡ 0 = omega arith in
@@ -31,7 +31,11 @@ loop-d-init c =
 pub enter-requires : goal.enter-requires
 enter-requires c =
     let l = c.loop-d in
-    ((l.invariant.0, omega arith, omega arith, room (goal.at.enter-requires c).At-loop-d), (c.requires.all_fixed.0, entered_here l.invariant.1))
+    record {
+      d_bound = (l.invariant.0, omega arith, omega arith, room (goal.at.enter-requires c).At-loop-d);
+      all_fixed = c.requires.all_fixed;
+      entered = entered_here l.invariant.1;
+    }
 
 pub loop-d-preserved : goal.loop-d-preserved
 loop-d-preserved c =
@@ -41,10 +45,14 @@ loop-d-preserved c =
 pub enter-requires-2 : goal.enter-requires-2
 enter-requires-2 c =
     let l = c.loop-d in
-    ((l.invariant.0, omega arith, omega arith, room (goal.at.enter-requires-2 c).At-loop-d), (c.requires.all_fixed.0, entered_here l.invariant.1))
+    record {
+      d_bound = (l.invariant.0, omega arith, omega arith, room (goal.at.enter-requires-2 c).At-loop-d);
+      all_fixed = c.requires.all_fixed;
+      entered = entered_here l.invariant.1;
+    }
 
 pub shape_of-cells : goal.shape_of-cells
-shape_of-cells c = (all c).size
+shape_of-cells c = (all (goal.at.shape_of-cells c).After-enter-2).size
 
 pub returns : goal.returns
-returns c = all c
+returns c = all (goal.at.returns c).After-enter-2

@@ -1,4 +1,3 @@
-use borrow.Author.Tests.{eqb-true, not-false}
 use mathlib.Core.Logic.{◌⊎◌, inl, inr}
 use Prim.Native.Nat.{◌≤◌}
 use native.Mathlib.Omega.{arith}
@@ -19,7 +18,7 @@ only c = only_then (only_wider c.unset_all.ensures.only (omega arith) (omega ari
 -- the next words change neither a row nor what tells of its cells
 settled_now : (c : After-line_up)
     → let a = c.args in
-    Settled (pattern_of a.pattern.now a.fixed.now a.m) c.loop-d.d c.line_up.new.1.1.1.1.0
+    Settled (pattern_of a.pattern.now a.fixed.now a.m) c.loop-d.d c.line_up.new.cells
 settled_now c =
     let l = c.loop-d in
     settled_same _ l.d l.cells _ l.invariant.0 c.line_up.ensures.only
@@ -40,10 +39,10 @@ pub line_up-requires : goal.line_up-requires
 line_up-requires c = (omega arith, omega arith, omega (arith, (only (goal.at.line_up-requires c).At-loop-d).size))
 
 pub settle-unset-requires : goal.settle-unset-requires
-settle-unset-requires c = (
-  (omega arith, omega (arith, (only (goal.at.settle-unset-requires c).At-loop-d).size, c.line_up.ensures.only.size)),
-  c.line_up.ensures.unions,
-)
+settle-unset-requires c = record {
+  d_bound = (omega arith, omega (arith, (only (goal.at.settle-unset-requires c).At-loop-d).size, c.line_up.ensures.only.size));
+  unions = c.line_up.ensures.unions;
+}
 
 pub loop-d-preserved : goal.loop-d-preserved
 loop-d-preserved c =
@@ -58,7 +57,7 @@ pub shape_of-cells-else-unset-ne0 : goal.shape_of-cells-else-unset-ne0
 shape_of-cells-else-unset-ne0 c = (only (goal.at.shape_of-cells-else-unset-ne0 c).At-loop-d).size
 
 pub returns-else-unset-ne0 : goal.returns-else-unset-ne0
-returns-else-unset-ne0 c = all (goal.at.returns-else-unset-ne0 c).At-loop-d (inr (c.loop-d.invariant.1 (eqb-true _ _ (not-false _ c.if-unset-ne0.false))))
+returns-else-unset-ne0 c = all (goal.at.returns-else-unset-ne0 c).At-loop-d (inr (c.loop-d.invariant.1 c.if-unset-ne0.false))
 
 pub shape_of-cells-after-loop-d : goal.shape_of-cells-after-loop-d
 shape_of-cells-after-loop-d c = (only (goal.at.shape_of-cells-after-loop-d c).At-loop-d).size

@@ -1,5 +1,5 @@
 use mathlib.Core.Path.{◌≡◌, sym, ap, ap₂, ◌∙◌}
-use mathlib.Core.Logic.{◌⊎◌, inl, inr, ⊎_elim}
+use mathlib.Core.Logic.{◌⊎◌, inl, inr}
 use Prim.Native.Nat.{ℕ, ◌+◌, ◌*◌, ◌^◌, ◌≤◌, ◌<◌}
 use native.Mathlib.Omega.{arith}
 use lib.Bits.{bit_and, and_le_r, and_zero_l}
@@ -10,13 +10,13 @@ use Rattle.bits.proofs.Weight.{weight_lt, bit_or_bit, weight_zero}
 use Rattle.matcher.proofs.LinedCells.{only_none, only_set}
 use Rattle.hash_tables.proofs.HashRows.{moves_of, part_pass, part_set}
 use Rattle.hash_tables.proofs.settle_four.Goals as goal
-use Rattle.hash_tables.proofs.settle_four.Goals.{After-if_in}
+use Rattle.hash_tables.proofs.settle_four.Goals.{After-if_in, then-moves-ne0, else-moves-ne0}
 
 -- the word of the moves of this turn's cell, if it has none yet
 moves_is : (c : After-if_in)
     → let a = c.args in
     let l = c.loop-low in
-    weight l.auto l.low ≡ 1 → bit_and c.if_in.result a.later ≡ moves_of a.cells.now a.high l.low
+    weight l.kept l.low ≡ 1 → bit_and c.if_in.result a.later ≡ moves_of a.cells.now a.high l.low
 moves_is c one =
     let l = c.loop-low in
     ap₂ bit_and (c.if_in.ensures ∙ ap (λ (b : ℕ). get_or l.cells (262 + l.low) 0 * b) one ∙ omega arith ∙ l.invariant.2.high (262 + l.low) (omega arith)) c.requires.later_value
@@ -25,7 +25,7 @@ moves_is c one =
 moves_zero : (c : After-if_in)
     → let a = c.args in
     let l = c.loop-low in
-    weight l.auto l.low ≡ 0 → bit_and c.if_in.result a.later ≡ 0
+    weight l.kept l.low ≡ 0 → bit_and c.if_in.result a.later ≡ 0
 moves_zero c none =
     let a = c.args in
     let l = c.loop-low in
@@ -35,12 +35,12 @@ moves_zero c none =
 is_kept : (c : After-if_in)
     → let a = c.args in
     let l = c.loop-low in
-    (bit_and c.if_in.result a.later ≡ 0 → ⊥) → weight l.auto l.low ≡ 1
+    (bit_and c.if_in.result a.later ≡ 0 → ⊥) → weight l.kept l.low ≡ 1
 is_kept c some =
     let l = c.loop-low in
-    go (bit_or_bit (weight l.auto l.low) (weight_lt l.auto l.low))
+    go (bit_or_bit (weight l.kept l.low) (weight_lt l.kept l.low))
   where
-    go : let l = c.loop-low in (weight l.auto l.low ≡ 0) ⊎ (weight l.auto l.low ≡ 1) → weight l.auto l.low ≡ 1
+    go : let l = c.loop-low in (weight l.kept l.low ≡ 0) ⊎ (weight l.kept l.low ≡ 1) → weight l.kept l.low ≡ 1
     go (inl z) = absurd (some (moves_zero c z))
     go (inr e) = e
 
@@ -74,34 +74,34 @@ pub loop-low-preserved : goal.loop-low-preserved
 loop-low-preserved c =
     let a = c.args in
     let l = c.loop-low in
-    ⊎_elim
-    (λ t.
-    let one = is_kept (goal.at.loop-low-preserved c).After-if_in t.0.taken in
-    let moves = moves_is (goal.at.loop-low-preserved c).After-if_in one in
-    let small : moves_of a.cells.now a.high l.low < 2 ^ 64 =
-    omega (arith, moves, and_le_r c.if_in.result a.later) in
-    rw (t.1, t.2) (
-      omega arith,
-      omega arith,
-      only_set (16 * a.high + l.low) _ l.invariant.2 (omega arith) (omega arith),
-      λ w long words r.
-          rw moves
-          (part_set w long a.d a.cells.now words a.high (omega arith) (omega arith) (l.invariant.3 w long words r) one small
-          (λ z. t.0.taken (moves ∙ z)) (omega (arith, l.invariant.2.size))),
-    ))
-    (λ t.
-    rw (t.1, t.2) (
-      omega arith,
-      omega arith,
-      l.invariant.2,
-      λ w long words r.
-          part_pass w long a.d a.cells.now words a.high (omega arith) (l.low + 1) (omega arith) (l.invariant.3 w long words r)
-          (λ low from to one e.
-          let here : low ≡ l.low = omega arith in
-          let z : moves_of a.cells.now a.high l.low ≡ 0 = sym (moves_is (goal.at.loop-low-preserved c).After-if_in (rw here at one)) ∙ t.0.left in
-          rw here (ap (λ (x : ℕ). weight x e) z ∙ weight_zero e)),
-    ))
-    c.if-moves-ne0.branch
+    elim c.if-moves-ne0.branch [
+      | then-moves-ne0 w ↦
+          let one = is_kept (goal.at.loop-low-preserved c).After-if_in w.if-moves-ne0.true in
+          let moves = moves_is (goal.at.loop-low-preserved c).After-if_in one in
+          let small : moves_of a.cells.now a.high l.low < 2 ^ 64 =
+          omega (arith, moves, and_le_r c.if_in.result a.later) in
+          rw (w.cells-is, w.kept-is) (
+            omega arith,
+            omega arith,
+            only_set (16 * a.high + l.low) _ l.invariant.2 (omega arith) (omega arith),
+            λ p long words r.
+                rw moves
+                (part_set p long a.d a.cells.now words a.high (omega arith) (omega arith) (l.invariant.3 p long words r) one small
+                (λ z. w.if-moves-ne0.true (moves ∙ z)) (omega (arith, l.invariant.2.size))),
+          )
+      | else-moves-ne0 w ↦
+          rw (w.cells-is, w.kept-is) (
+            omega arith,
+            omega arith,
+            l.invariant.2,
+            λ p long words r.
+                part_pass p long a.d a.cells.now words a.high (omega arith) (l.low + 1) (omega arith) (l.invariant.3 p long words r)
+                (λ low from to one e.
+                let here : low ≡ l.low = omega arith in
+                let z : moves_of a.cells.now a.high l.low ≡ 0 = sym (moves_is (goal.at.loop-low-preserved c).After-if_in (rw here at one)) ∙ w.if-moves-ne0.false in
+                rw here (ap (λ (x : ℕ). weight x e) z ∙ weight_zero e)),
+          )
+    ]
 
 pub shape_of-cells : goal.shape_of-cells
 shape_of-cells c = c.loop-low.invariant.2.size

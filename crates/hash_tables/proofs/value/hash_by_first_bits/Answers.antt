@@ -29,17 +29,11 @@ tested c =
 pub loop-k-init : goal.loop-k-init
 loop-k-init c = (omega arith, c.requires.by_index)
 
-rem_if1 : tie.Need-nonzero-rem-if1 invariant-loop decreases-loop
-rem_if1 c = rw (one_shl c.before.loop.k (omega arith)) (pow_pos c.before.loop.k)
+pub nonzero_rem-value : goal.nonzero_rem-value
+nonzero_rem-value c = rw (one_shl c.loop-k.k (omega arith)) (pow_pos c.loop-k.k)
 
 pub overflow_sub-result : goal.overflow_sub-result
 overflow_sub-result c = omega (arith, long_enough _ c.requires.good_pattern)
-
-pub returns-then-value-k-eq0 : goal.returns-then-value-k-eq0
-returns-then-value-k-eq0 c =
-    let a = c.args in
-    let l = c.loop-k in
-    hash_is (pattern_of a.pattern.now a.fixed.now a.m) a.value (a.m - l.k) l.invariant.1 ((tested (goal.at.returns-then-value-k-eq0 c).In-loop-k).1 c.if-value-k-eq0.true)
 
 pub loop-k-preserved : goal.loop-k-preserved
 loop-k-preserved c =
@@ -50,6 +44,12 @@ loop-k-preserved c =
       omega arith,
       rw up (none_more (pattern_of a.pattern.now a.fixed.now a.m) a.value (a.m - l.k) l.invariant.1 (λ e. c.if-value-k-eq0.false ((tested (goal.at.loop-k-preserved c).In-loop-k).0 e))),
     )
+
+pub returns-then-value-k-eq0 : goal.returns-then-value-k-eq0
+returns-then-value-k-eq0 c =
+    let a = c.args in
+    let l = c.loop-k in
+    hash_is (pattern_of a.pattern.now a.fixed.now a.m) a.value (a.m - l.k) l.invariant.1 ((tested (goal.at.returns-then-value-k-eq0 c).In-loop-k).1 c.if-value-k-eq0.true)
 
 pub returns : goal.returns
 returns c =

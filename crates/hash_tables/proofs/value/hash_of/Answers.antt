@@ -22,12 +22,6 @@ tested c =
 pub loop-d-init : goal.loop-d-init
 loop-d-init c = (omega (arith, long_enough _ c.requires), λ e h. absurd (omega arith))
 
-pub returns-then-value-byte_at-eq0 : goal.returns-then-value-byte_at-eq0
-returns-then-value-byte_at-eq0 c =
-    let a = c.args in
-    let l = c.loop-d in
-    hash_is (pattern_of a.pattern.now a.fixed.now a.m) a.value l.d l.invariant.1 ((tested (goal.at.returns-then-value-byte_at-eq0 c).After-byte_at-in-loop-d).1 c.if-value-byte_at-eq0.true)
-
 pub loop-d-preserved : goal.loop-d-preserved
 loop-d-preserved c =
     let a = c.args in
@@ -35,6 +29,12 @@ loop-d-preserved c =
       omega arith,
       none_more (pattern_of a.pattern.now a.fixed.now a.m) a.value l.d l.invariant.1 (λ e. c.if-value-byte_at-eq0.false ((tested (goal.at.loop-d-preserved c).After-byte_at-in-loop-d).0 e)),
     )
+
+pub returns-then-value-byte_at-eq0 : goal.returns-then-value-byte_at-eq0
+returns-then-value-byte_at-eq0 c =
+    let a = c.args in
+    let l = c.loop-d in
+    hash_is (pattern_of a.pattern.now a.fixed.now a.m) a.value l.d l.invariant.1 ((tested (goal.at.returns-then-value-byte_at-eq0 c).After-byte_at-in-loop-d).1 c.if-value-byte_at-eq0.true)
 
 pub hash_by_first_bits-requires : goal.hash_by_first_bits-requires
 hash_by_first_bits-requires c = record { good_pattern = c.requires; by_index = λ e h. c.loop-d.invariant.1 e (omega arith) }
