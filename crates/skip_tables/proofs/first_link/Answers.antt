@@ -2,23 +2,18 @@ use Prim.Native.Nat.{◌+◌, ◌-◌, ◌≤◌}
 use mathlib.Core.Path.{◌≡◌}
 use native.Mathlib.Omega.{arith}
 use lib.ListN.{get_or}
-use Rattle.rules.specs.Pattern.{Pattern}
 use Rattle.matcher.specs.Tables.{last_below, chained, shows_byte, in_chain}
 use Rattle.matcher.specs.Progress.{pattern_of}
 use Rattle.skip_tables.proofs.SkipBelow.{below_is, below_again}
 use Rattle.skip_tables.proofs.SkipShows.{shown_chain}
 use Rattle.skip_tables.proofs.SkipChain.{chained_fits, headed_first, headed_within, headed_passes, headed_more, headed_done, link_less, chain_link}
 use Rattle.skip_tables.proofs.first_link.Goals as goal
-use Rattle.skip_tables.proofs.first_link.Goals.{In-loop-j, Start}
-
--- the pattern
-abbrev pattern : Start → Pattern
-pattern c Start) = pattern_of c.args.pattern.now c.args.fixed.now c.args.m
+use Rattle.skip_tables.proofs.first_link.Goals.{In-loop-j}
 
 pub returns-then-indices-k : goal.returns-then-indices-k
 returns-then-indices-k c =
     let a = c.args in
-    (omega arith, (below_is (shows_byte (pattern (goal.at.returns-then-indices-k c).Start) a.v) a.k).within, λ g. absurd (omega (arith, c.indices.ensures)))
+    (omega arith, (below_is (shows_byte (pattern_of c.args.pattern.now c.args.fixed.now c.args.m) a.v) a.k).within, λ g. absurd (omega (arith, c.indices.ensures)))
 
 pub offset_bounds-cells-v : goal.offset_bounds-cells-v
 offset_bounds-cells-v c = omega arith
@@ -29,7 +24,7 @@ bounds-cells-v c = omega arith
 pub loop-j-init : goal.loop-j-init
 loop-j-init c =
     let a = c.args in
-    headed_first (in_chain (pattern (goal.at.loop-j-init c).Start) a.v) (chained a.m) a.k _ (c.requires.chain_tables.head_is a.v c.ranges.v.fits) (omega (arith, c.indices.ensures))
+    headed_first (in_chain (pattern_of c.args.pattern.now c.args.fixed.now c.args.m) a.v) (chained a.m) a.k _ (c.requires.chain_tables.head_is a.v c.ranges.v.fits) (omega (arith, c.indices.ensures))
 
 -- the link's index is one of those chained
 near : (c : In-loop-j) → c.loop-j.j + 7 ≤ c.args.m
@@ -48,11 +43,11 @@ bounds-cells-j c = omega (arith, near (goal.at.bounds-cells-j c).In-loop-j)
 
 -- the link after it
 after : (c : In-loop-j)
-    → get_or c.args.cells.now (255 + c.loop-j.j) 0 ≡ last_below (in_chain (pattern (?PLACE Start)) c.args.v) (c.loop-j.j - 1)
+    → get_or c.args.cells.now (255 + c.loop-j.j) 0 ≡ last_below (in_chain (pattern_of c.args.pattern.now c.args.fixed.now c.args.m) c.args.v) (c.loop-j.j - 1)
 after c =
-    let pattern : Pattern = λ Start). pattern_of c.args.pattern.now c.args.fixed.now c.args.m in
+    let w = pattern_of c.args.pattern.now c.args.fixed.now c.args.m in
     let l = c.loop-j in
-    chain_link pattern c.args.cells.now c.requires.chain_tables l.j (omega arith) (headed_within _ _ _ l.j l.invariant) c.args.v (headed_passes _ _ _ l.j l.invariant (omega arith))
+    chain_link w c.args.cells.now c.requires.chain_tables l.j (omega arith) (headed_within _ _ _ l.j l.invariant) c.args.v (headed_passes _ _ _ l.j l.invariant (omega arith))
 
 pub loop-j-smaller : goal.loop-j-smaller
 loop-j-smaller c = link_less _ _ _ (omega arith) (after (goal.at.loop-j-smaller c).In-loop-j)
@@ -65,7 +60,7 @@ loop-j-preserved c =
 pub returns : goal.returns
 returns c =
     let a = c.args in
-    let w = pattern (goal.at.returns c).Start in
+    let w = pattern_of c.args.pattern.now c.args.fixed.now c.args.m in
     let l = c.loop-j in
     let e = headed_done _ _ _ l.j l.invariant c.loop-j-test.false in
     let few : a.k ≤ chained a.m = omega (arith, c.indices.ensures) in

@@ -3,23 +3,18 @@
 use Prim.Native.Nat.{ℕ, ◌+◌, ◌-◌, ◌*◌, ◌/◌, ◌%◌}
 use native.Mathlib.Omega.{arith}
 use lib.ListN.{get_or}
-use Rattle.rules.specs.Pattern.{Pattern}
 use Rattle.matcher.specs.Lined.{Lined}
 use Rattle.matcher.specs.Progress.{pattern_of}
 use Rattle.skip_tables.proofs.SkipWords.{flags_whole, flags_last}
 use Rattle.skip_tables.proofs.flags.Goals as goal
 use Rattle.skip_tables.proofs.flags.Goals.{Start}
 
--- the pattern
-abbrev pattern : Start → Pattern
-pattern c Start) = pattern_of c.args.pattern.now c.args.fixed.now c.args.m
-
 -- the words of the byte's last and of its first four bits
-halves : ((?PLACE Start) : Start)
+halves : (c : Start)
     → let a = c.args in
     let word : ℕ → ℕ = λ x. get_or a.cells.now (22 * a.c + 6 + x) 0 in
-    Lined (pattern (?PLACE Start)) (57 * a.c) 4 (a.v % 16) (word (a.v % 16)) × Lined (pattern (?PLACE Start)) (57 * a.c) 4 (a.v / 16) (word (a.v / 16))
-halves (?PLACE Start) =
+    Lined (pattern_of c.args.pattern.now c.args.fixed.now c.args.m) (57 * a.c) 4 (a.v % 16) (word (a.v % 16)) × Lined (pattern_of c.args.pattern.now c.args.fixed.now c.args.m) (57 * a.c) 4 (a.v / 16) (word (a.v / 16))
+halves c =
     let a = c.args in
     let words = c.requires.word_tables.words_are a.c c.requires.m_in_bounds.2 in
     (words (a.v % 16) (omega arith), words (a.v / 16) (omega (arith, c.ranges.v.fits)))
@@ -28,10 +23,10 @@ pub returns-then-left-lt57 : goal.returns-then-left-lt57
 returns-then-left-lt57 c =
     let a = c.args in
     let h = halves (goal.at.returns-then-left-lt57 c).Start in
-    flags_last (pattern (goal.at.returns-then-left-lt57 c).Start) a.v (57 * a.c) _ _ h.0 h.1 (a.m - 7 - 57 * a.c) c.if-left-lt57.true (omega arith)
+    flags_last (pattern_of c.args.pattern.now c.args.fixed.now c.args.m) a.v (57 * a.c) _ _ h.0 h.1 (a.m - 7 - 57 * a.c) c.if-left-lt57.true (omega arith)
 
 pub returns : goal.returns
 returns c =
     let a = c.args in
     let h = halves (goal.at.returns c).Start in
-    flags_whole (pattern (goal.at.returns c).Start) a.v (57 * a.c) _ _ h.0 h.1 (omega arith)
+    flags_whole (pattern_of c.args.pattern.now c.args.fixed.now c.args.m) a.v (57 * a.c) _ _ h.0 h.1 (omega arith)

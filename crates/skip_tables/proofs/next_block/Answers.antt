@@ -1,15 +1,9 @@
 use Prim.Native.Nat.{◌+◌, ◌*◌, ◌≤◌}
 use mathlib.Core.Path.{refl}
 use native.Mathlib.Omega.{arith}
-use Rattle.rules.specs.Pattern.{Pattern}
 use Rattle.matcher.specs.Progress.{pattern_of}
 use Rattle.skip_tables.proofs.SkipWords.{flagging_more, flagging_end}
 use Rattle.skip_tables.proofs.next_block.Goals as goal
-use Rattle.skip_tables.proofs.next_block.Goals.{Start}
-
--- the pattern
-abbrev pattern : Start → Pattern
-pattern c Start) = pattern_of c.args.pattern.now c.args.fixed.now c.args.m
 
 pub overflow_mul-far : goal.overflow_mul-far
 overflow_mul-far c = omega arith
@@ -28,14 +22,13 @@ overflow_add-far-in-loop-f c = omega (arith, c.loop-f.invariant.0, c.loop-f.inva
 
 pub returns-then-m-far : goal.returns-then-m-far
 returns-then-m-far c =
-    let l = c.loop-f in
-    (
+    let l = c.loop-f in (
       omega (arith, l.invariant.0),
       omega (arith, l.invariant.2),
       λ e. absurd (omega (arith, l.invariant.2)),
       λ k u. record {
         flagging = λ ne. absurd (ne refl);
-        none = λ e few. flagging_end (pattern (goal.at.returns-then-m-far c).Start) c.args.v k l.number l.f (l.invariant.4 k u) c.loop-f-test.true (omega (arith, l.invariant.0)) few;
+        none = λ e few. flagging_end (pattern_of c.args.pattern.now c.args.fixed.now c.args.m) c.args.v k l.number l.f (l.invariant.4 k u) c.loop-f-test.true (omega (arith, l.invariant.0)) few;
       },
     )
 
@@ -54,7 +47,7 @@ loop-f-preserved c =
       fits,
       omega (arith, l.invariant.2),
       λ e. absurd (omega (arith, l.invariant.2)),
-      λ k u. flagging_more (pattern (goal.at.loop-f-preserved c).Start) c.args.v k l.number l.f (l.invariant.4 k u) c.loop-f-test.true _ fits c.flags-f.ensures,
+      λ k u. flagging_more (pattern_of c.args.pattern.now c.args.fixed.now c.args.m) c.args.v k l.number l.f (l.invariant.4 k u) c.loop-f-test.true _ fits c.flags-f.ensures,
     )
 
 pub returns : goal.returns

@@ -3,25 +3,19 @@
 use Prim.Native.Nat.{◌-◌, ◌≤◌}
 use mathlib.Core.Path.{◌≡◌, ap, ◌∙◌}
 use native.Mathlib.Omega.{arith}
-use Rattle.rules.specs.Pattern.{Pattern}
 use Rattle.matcher.specs.Tables.{last_below, shows_byte, in_chain, chained}
 use Rattle.matcher.specs.Progress.{pattern_of}
 use Rattle.skip_tables.proofs.SkipBelow.{below_is, below_again}
 use Rattle.skip_tables.proofs.SkipShows.{shown_chain}
 use Rattle.skip_tables.proofs.SkipChain.{chained_fits, chain_link}
 use Rattle.skip_tables.proofs.next_link.Goals as goal
-use Rattle.skip_tables.proofs.next_link.Goals.{Start}
-
--- the pattern
-abbrev pattern : Start → Pattern
-pattern c Start) = pattern_of c.args.pattern.now c.args.fixed.now c.args.m
 
 pub returns-then-j-count : goal.returns-then-j-count
 returns-then-j-count c =
     let a = c.args in
-    let w = pattern (goal.at.returns-then-j-count c).Start in
+    let w = pattern_of c.args.pattern.now c.args.fixed.now c.args.m in
     let low : a.j ≤ chained a.m = omega (arith, c.indices-count.ensures) in
-    let here = (below_is (in_chain w a.v) a.j).passes (a.j - 1) (omega (arith, c.requires.m_in_bounds.1 low)) in
+    let here = (below_is (in_chain w a.v) a.j).passes (a.j - 1) (omega (arith, c.requires.j_value low)) in
     let e = chain_link w a.cells.now c.requires.chain_tables a.j (omega arith) low a.v here in
     let shown = shown_chain w c.requires.chain_tables.all_fixed a.v c.ranges.v.fits (a.j - 1) (omega (arith, chained_fits a.m (omega arith))) in
     (omega (arith, e, (below_is (in_chain w a.v) (a.j - 1)).within), omega (arith, e, shown), λ g. below_again (in_chain w a.v) (a.j - 1) _ e)
@@ -29,7 +23,7 @@ returns-then-j-count c =
 pub returns-then-j-count-2 : goal.returns-then-j-count-2
 returns-then-j-count-2 c =
     let a = c.args in
-    let w = pattern (goal.at.returns-then-j-count-2 c).Start in
+    let w = pattern_of c.args.pattern.now c.args.fixed.now c.args.m in
     let last : chained a.m ≡ a.j - 1 = omega (arith, c.indices-count.ensures) in
     let e = c.requires.chain_tables.head_is a.v (omega arith) ∙ ap (last_below (in_chain w a.v)) last in
     let shown = shown_chain w c.requires.chain_tables.all_fixed a.v c.ranges.v.fits (a.j - 1) (omega (arith, chained_fits a.m (omega arith))) in
@@ -38,4 +32,4 @@ returns-then-j-count-2 c =
 pub returns : goal.returns
 returns c =
     let a = c.args in
-    (omega arith, (below_is (shows_byte (pattern (goal.at.returns c).Start) a.v) (a.j - 1)).within, λ g. absurd (omega (arith, c.indices-count.ensures)))
+    (omega arith, (below_is (shows_byte (pattern_of c.args.pattern.now c.args.fixed.now c.args.m) a.v) (a.j - 1)).within, λ g. absurd (omega (arith, c.indices-count.ensures)))

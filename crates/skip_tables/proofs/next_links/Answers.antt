@@ -10,7 +10,7 @@ use Rattle.skip_tables.proofs.next_links.Goals as goal
 pub next_link-requires : goal.next_link-requires
 next_link-requires c =
     let z = c.if-cells-m-eq0.true in
-    (c.requires.skip_tables.chains z, ((c.requires.m_in_bounds.0.0, c.requires.m_in_bounds.0.1, c.requires.m_in_bounds.0.2, c.requires.m_in_bounds.0.3, omega arith), c.requires.m_in_bounds.1.chain z))
+    record { chain_tables = c.requires.skip_tables.chains z; m_in_bounds = (c.requires.m_in_bounds.0, c.requires.m_in_bounds.1, c.requires.m_in_bounds.2, c.requires.m_in_bounds.3, omega arith); j_value = c.requires.walking.chain z }
 
 pub returns-then-cells-m-eq0 : goal.returns-then-cells-m-eq0
 returns-then-cells-m-eq0 c =
@@ -20,7 +20,7 @@ returns-then-cells-m-eq0 c =
 pub lowest-requires : goal.lowest-requires
 lowest-requires c =
     let n = c.if-cells-m-eq0.false in
-    (c.requires.skip_tables.words n, ((c.requires.m_in_bounds.0.0, c.requires.m_in_bounds.0.2, omega arith), c.requires.m_in_bounds.1.words n c.requires.m_in_bounds.0.3))
+    record { word_tables = c.requires.skip_tables.words n; m_in_bounds = (c.requires.m_in_bounds.0, c.requires.m_in_bounds.2, omega arith); flagging = c.requires.walking.words n c.requires.m_in_bounds.3 }
 
 pub returns : goal.returns
 returns c =

@@ -3,16 +3,11 @@ use mathlib.Core.Path.{◌≡◌, refl, ◌∙◌}
 use native.Mathlib.Omega.{arith}
 use lib.ListN.{length, length-set}
 use borrow.Author.Tests.{ltb-false}
-use Rattle.rules.specs.Pattern.{Pattern}
 use Rattle.matcher.specs.Progress.{pattern_of}
 use Rattle.skip_tables.proofs.SkipChain.{chained_fits}
 use Rattle.skip_tables.proofs.SkipFilling.{same_size, empty_size, empty_rest, empty_kind, filled_none, filled_here, filled_then, filled_all}
 use Rattle.skip_tables.proofs.prepare_chains.Goals as goal
-use Rattle.skip_tables.proofs.prepare_chains.Goals.{After-indices-count, At-loop-j, Start}
-
--- the pattern
-abbrev pattern : Start → Pattern
-pattern c Start) = pattern_of c.args.pattern.now c.args.fixed.now c.args.m
+use Rattle.skip_tables.proofs.prepare_chains.Goals.{After-indices-count, At-loop-j}
 
 -- the cells are as many as before
 kept : (c : At-loop-j) → length c.loop-j.cells ≡ length c.args.cells.now
@@ -45,7 +40,7 @@ indices-count-requires c =
 
 pub loop-j-init : goal.loop-j-init
 loop-j-init c =
-    (omega arith, filled_none (pattern (goal.at.loop-j-init c).Start) c.args.cells.now c.clear.new.cells _ c.clear.ensures refl c.requires.good_pattern.some_bits c.requires.all_fixed.1)
+    (omega arith, filled_none (pattern_of c.args.pattern.now c.args.fixed.now c.args.m) c.args.cells.now c.clear.new.cells _ c.clear.ensures refl c.requires.good_pattern.some_bits c.requires.m_in_bounds)
 
 pub overflow_add-j : goal.overflow_add-j
 overflow_add-j c = omega (arith, few (goal.at.overflow_add-j c).After-indices-count)
@@ -81,8 +76,8 @@ shape_of-cells c = c.enter-2.ensures.size ∙ kept (goal.at.shape_of-cells c).At
 
 pub returns : goal.returns
 returns c =
-    let size = empty_size (pattern (goal.at.returns c).Start) c.args.cells.now c.clear.new.cells _ c.clear.ensures refl c.requires.good_pattern.some_bits c.requires.all_fixed.1 in
-    let rest = empty_rest (pattern (goal.at.returns c).Start) c.args.cells.now c.clear.new.cells _ c.clear.ensures refl c.requires.good_pattern.some_bits c.requires.all_fixed.1 in
-    let kind = empty_kind (pattern (goal.at.returns c).Start) c.args.cells.now c.clear.new.cells _ c.clear.ensures refl c.requires.good_pattern.some_bits c.requires.all_fixed.1 in
-    filled_all (pattern (goal.at.returns c).Start) c.args.cells.now _ _ _ c.requires.all_fixed.0 kind size rest
+    let size = empty_size (pattern_of c.args.pattern.now c.args.fixed.now c.args.m) c.args.cells.now c.clear.new.cells _ c.clear.ensures refl c.requires.good_pattern.some_bits c.requires.m_in_bounds in
+    let rest = empty_rest (pattern_of c.args.pattern.now c.args.fixed.now c.args.m) c.args.cells.now c.clear.new.cells _ c.clear.ensures refl c.requires.good_pattern.some_bits c.requires.m_in_bounds in
+    let kind = empty_kind (pattern_of c.args.pattern.now c.args.fixed.now c.args.m) c.args.cells.now c.clear.new.cells _ c.clear.ensures refl c.requires.good_pattern.some_bits c.requires.m_in_bounds in
+    filled_all (pattern_of c.args.pattern.now c.args.fixed.now c.args.m) c.args.cells.now _ _ _ c.requires.all_fixed kind size rest
     (filled_then c.loop-j.invariant.1 c.enter-2.ensures) (omega (arith, c.indices-count.ensures))

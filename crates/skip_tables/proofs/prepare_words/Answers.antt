@@ -2,16 +2,11 @@ use Prim.Native.Nat.{◌+◌}
 use mathlib.Core.Path.{◌≡◌, ◌∙◌}
 use native.Mathlib.Omega.{arith}
 use lib.ListN.{length, length-set}
-use Rattle.rules.specs.Pattern.{Pattern}
 use Rattle.matcher.specs.Progress.{pattern_of}
 use Rattle.matcher.proofs.LinedCells.{only_none, only_then, only_wider}
 use Rattle.skip_tables.proofs.SkipWords.{words_more, words_all}
 use Rattle.skip_tables.proofs.prepare_words.Goals as goal
-use Rattle.skip_tables.proofs.prepare_words.Goals.{At-loop-k, Start}
-
--- the pattern
-abbrev pattern : Start → Pattern
-pattern c Start) = pattern_of c.args.pattern.now c.args.fixed.now c.args.m
+use Rattle.skip_tables.proofs.prepare_words.Goals.{At-loop-k}
 
 -- the cells are as many as before
 kept : (c : At-loop-k) → length c.loop-k.cells ≡ length c.args.cells.now
@@ -58,7 +53,7 @@ loop-k-preserved c =
     let l = c.loop-k in
     let e = c.line_up.ensures in (
       omega arith,
-      words_more (pattern (goal.at.loop-k-preserved c).Start) c.args.cells.now c.requires.m_in_bounds l.k l.cells _ l.invariant.1 e.0 e.1,
+      words_more (pattern_of c.args.pattern.now c.args.fixed.now c.args.m) c.args.cells.now c.requires.m_in_bounds l.k l.cells _ l.invariant.1 e.0 e.1,
       only_then l.invariant.2 (only_wider e.1 (omega arith) (omega arith)),
     )
 
@@ -68,4 +63,4 @@ shape_of-cells c = kept (goal.at.shape_of-cells c).At-loop-k
 pub returns : goal.returns
 returns c =
     let l = c.loop-k in
-    words_all (pattern (goal.at.returns c).Start) c.args.cells.now c.requires.m_in_bounds l.k l.cells l.invariant.1 c.loop-k-test.false l.invariant.2
+    words_all (pattern_of c.args.pattern.now c.args.fixed.now c.args.m) c.args.cells.now c.requires.m_in_bounds l.k l.cells l.invariant.1 c.loop-k-test.false l.invariant.2
