@@ -15,6 +15,8 @@ mod single;
 mod wild;
 
 use draws::{draw, number, packed, report};
+use std::io;
+use std::io::Write;
 
 // A case of a kind, by its number and a drawn one, over a buffer of bytes and a list. The buffer is drawn, but zero for the
 // named cases; a set has a buffer of its own.
@@ -42,18 +44,24 @@ fn one(kind: usize, i: usize, x: usize) -> bool {
 }
 
 // The cases of a kind: how many disagree. Each of these is printed after the kind's line.
-fn many(names: &[u8], counts: &[usize], kind: usize) -> usize {
-    let count = report::kind_line(names, counts, kind);
+fn many<W: Write>(
+    out: &mut W,
+    names: &[u8],
+    counts: &[usize],
+    kind: usize,
+) -> io::Result<usize> {
+    let count = report::kind_line(out, names, counts, kind)?;
     let mut wrong: usize = 0;
     let mut x = 88172645463325252 + kind % 32;
     let mut i: usize = 0;
     while i < count {
         x = draw::next(x);
         let good = one(kind, i, x);
-        wrong = number::plus(wrong, report::disagreement(names, counts, kind, i, good));
+        let more = report::disagreement(out, names, counts, kind, i, good)?;
+        wrong = number::plus(wrong, more);
         i += 1;
     }
-    wrong
+    Ok(wrong)
 }
 
 // The kinds: their names, and where each one's name ends and how many cases it has.
@@ -143,12 +151,14 @@ const COUNTS: [usize; 54] = [
     rows::LENGTHS,
 ];
 
-fn main() {
+fn main(rt: HostRuntime) -> io::Result<()> {
+    let mut out = io::writer(&rt);
     let mut wrong: usize = 0;
     let mut kind: usize = 0;
     while kind < 27 {
-        wrong = number::plus(wrong, many(&NAMES, &COUNTS, kind));
+        let more = many(&mut out, &NAMES, &COUNTS, kind)?;
+        wrong = number::plus(wrong, more);
         kind += 1;
     }
-    report::line(b"disagreements ", wrong);
+    report::line(&mut out, b"disagreements ", wrong)
 }
