@@ -36,12 +36,7 @@ fn file_case(kind: usize, i: usize, x: usize) -> bool {
 }
 
 // The cases of a kind: how many disagree. Each of these is printed after the kind's line.
-fn many<W: Write>(
-    out: &mut W,
-    names: &[u8],
-    counts: &[usize],
-    kind: usize,
-) -> io::Result<usize> {
+fn many<W: Write>(out: &mut W, names: &[u8], counts: &[usize], kind: usize) -> io::Result<usize> {
     let count = report::kind_line(out, names, counts, kind)?;
     let mut wrong: usize = 0;
     let mut x = 88172645463325252 + kind % 16;
