@@ -3,4 +3,5 @@ pub mod Enough
 pub mod Answers
 pub mod Reporting
 pub mod Printed
+pub mod Running
 pub mod Examples
