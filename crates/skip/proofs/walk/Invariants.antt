@@ -1,0 +1,17 @@
+-- `skip::walk` meets its contract. The loop's invariant: the link is one of the byte's chain, and the occurrences before its
+-- place are written.
+-- Assumes nothing.
+use Prim.Native.Nat.{◌+◌, ◌-◌, ◌*◌}
+use Rattle.bits.specs.Packed.{bits_at}
+use Rattle.rules.specs.Occurrence.{occurrences}
+use Rattle.matcher.specs.Tables.{in_chain, chained}
+use Rattle.matcher.specs.Progress.{text_in, pattern_in, Writing}
+use Rattle.skip_tables.proofs.SkipChain.{Headed}
+use Rattle.skip.proofs.walk.Given as goal
+
+abbrev pub invariant-loop-next : goal.invariant-loop-next
+invariant-loop-next l = Headed (in_chain (pattern_in l.pattern l.fixed l.known) (bits_at l.text (8 * l.byte) 8)) (chained l.known.m) 0 l.next
+    × Writing l.initial.list l.had (occurrences (text_in l.text l.known) (pattern_in l.pattern l.fixed l.known) (8 * l.byte + 1 - chained l.known.m) (8 * l.byte + 1 - l.next)) l.list l.written
+
+abbrev pub decreases-loop-next : goal.decreases-loop-next
+decreases-loop-next l = l.next
