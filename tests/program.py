@@ -173,7 +173,7 @@ class Program:
         while i < len(tokens):
             t = tokens[i]
             if t == "#":
-                i = past(tokens, i + 1)
+                i = past(tokens, i + 2 if tokens[i + 1] == "!" else i + 1)
             elif t == "pub":
                 i = past(tokens, i + 1) if tokens[i + 1] == "(" else i + 1
             elif t == "extern" and tokens[i + 2] == "fn":

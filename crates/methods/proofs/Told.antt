@@ -9,5 +9,5 @@ use Rattle.rules.specs.Pattern.{Pattern}
 use Rattle.matcher.specs.Progress.{Ready}
 
 -- what the steps of the arm's method rely on
-pub ready_as : {x y : Method} {t : Packed} {w : Pattern} {cells : List ℕ} {Rest : Type 0} → x ≡ y → Ready x t w cells × Rest → Ready y t w cells × Rest
-ready_as e p = (rw e at p.0, p.1)
+pub ready_as : {x y : Method} {t : Packed} {w : Pattern} {cells : List ℕ} → x ≡ y → Ready x t w cells → Ready y t w cells
+ready_as e p = rw e at p
