@@ -289,6 +289,7 @@ fn by_words(
 }
 
 // Many steps by the tables of either kind. From a mark that is not 8 a + 1 it makes no step: only a call's first mark is one.
+#[tactic(auto, using(matcher::proofs::Advancing::advanced_none))]
 pub fn advance(
     text: &[u8],
     pattern: &[u8],
