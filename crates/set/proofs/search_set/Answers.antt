@@ -2,7 +2,6 @@
 -- Assumes nothing.
 use mathlib.Core.Path.{◌≡◌, refl, sym, ◌∙◌, ap}
 use native.Mathlib.Omega.{arith}
-use borrow.Author.Rules.{rules}
 use Rattle.search.specs.Verdict.{AllFail, refused, accepted, judge}
 use Rattle.search.proofs.Verdict.{judge_accepted, accepted_judge}
 use Rattle.matcher.specs.Progress.{text_of}
@@ -14,13 +13,13 @@ use Rattle.set.specs.Promise.{number_of_refusal}
 use Rattle.set_tables.specs.Parts.{set_of}
 use Rattle.set.specs.Parts.{check_of, Allowed}
 use Rattle.set.proofs.Rows.{allowed, judge_again}
-use Rattle.set.proofs.search_set.Statement.{statement}
-use Rattle.set.proofs.search_set.Tie as tie
+use Rattle.set.proofs.search_set.Goals as goal
+use Rattle.set.proofs.search_set.Goals.{Start}
 
 -- the request of a call
-asked : tie.Start → Request
-asked s =
-    let a = s.args in
+asked : Start → Request
+asked c =
+    let a = c.args in
     record { text = text_of a.text.now a.n; patterns = set_of a.patterns.now a.fixed.now a.counts.now; mark = a.mark.at.0; budget = a.budget; list = a.list.now }
 
 -- what the check said, of the whole request
@@ -39,49 +38,24 @@ module _ (q : Request) (k : Checked) (says : check_of k ≡ judge (rows q.text q
   unfolding verdict
   not_passed r e = judge_again tt (machine q) (rows q.text q.patterns q.mark) (number_of_refusal r) (sym says ∙ ap check_of e)
 
-check-requires : tie.Need-check-requires
-check-requires c κs = search rules
-
-enum-known-checked : tie.Need-enum-known-checked
-enum-known-checked c = search rules
-
-enum_told : tie.Need-enum-told
-enum_told c = search rules
-
-cast-accepted : tie.Need-overflow-cast-accepted
+pub overflow_cast-n : goal.overflow_cast-n
 unfolding asked
-cast-accepted c = omega (arith, (may-run (asked c.before.before.before.before.before.before.before.before.before) _ c.before.before.check.ensures c.enum_told.given.1).few_bits)
+overflow_cast-n c = omega (arith, (may-run (asked (goal.at.overflow_cast-n c).Start) _ c.check-checked.ensures c.in-Passed.is).few_bits)
 
-accepted-requires : tie.Need-accepted-requires
+pub accepted-requires : goal.accepted-requires
 unfolding asked
-accepted-requires c κs = may-run (asked c.before.before.before.before.before.before.before.before.before.before) _ c.before.before.before.check.ensures c.before.enum_told.given.1
+accepted-requires c = may-run (asked (goal.at.accepted-requires c).Start) _ c.check-checked.ensures c.in-Passed.is
 
-returns : tie.Need-returns
+pub returns-in-Refused : goal.returns-in-Refused
 unfolding asked
-returns c = record { verdict_is = not_passed (asked c.before.before.before.before.before.before.before.before.before.before) _ c.before.before.before.check.ensures _ c.before.checked.given.1; list_is = refl }
+returns-in-Refused c = record { verdict_is = not_passed (asked (goal.at.returns-in-Refused c).Start) _ c.check-checked.ensures _ c.in-Refused.is; list_is = refl }
 
-same_length : tie.Need-same-length
-same_length c = search rules
-
-returns-2 : tie.Need-returns-2
+pub returns-in-Passed : goal.returns-in-Passed
 unfolding asked machine
-returns-2 c =
-    let l = c.before.before.accepted.ensures in
+returns-in-Passed c =
+    let l = c.accepted.ensures in
     record {
-      verdict_is = passed (asked c.before.before.before.before.before.before.before.before.before.before.before.before.before) _ c.before.before.before.before.before.before.check.ensures c.before.before.before.before.enum_told.given.1;
+      verdict_is = passed (asked (goal.at.returns-in-Passed c).Start) _ c.check-checked.ensures c.in-Passed.is;
       answer = l.answer;
       list_is = l.list_is;
     }
-
-pub search-set-spec : {M : Type 1} → statement M
-search-set-spec =
-    tie.close
-    (tie.spec
-    check-requires
-    enum-known-checked
-    enum_told
-    cast-accepted
-    accepted-requires
-    returns
-    same_length
-    returns-2)
