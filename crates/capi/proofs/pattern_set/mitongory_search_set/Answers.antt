@@ -1,0 +1,28 @@
+-- `capi::pattern_set::mitongory_search_set` meets its contract: few answer cells refuse, else answer and list are those of
+-- `set::search_set`.
+-- Assumes nothing.
+use Rattle.capi.specs.PatternSet.{SetCall}
+use Rattle.capi.proofs.PatternSet.{set_short, set_refused, set_accepted}
+use Rattle.capi.proofs.pattern_set.mitongory_search_set.Goals as goal
+use Rattle.capi.proofs.pattern_set.mitongory_search_set.Goals.{Start}
+
+-- what the call was handed
+abbrev asked : Start → SetCall
+asked c =
+    let a = c.args in
+    record { text = a.text.now; n = a.n; patterns = a.patterns.now; fixed = a.fixed.now; counts = a.counts.now; mark = a.mark; budget = a.budget; list = a.list.now; answer = a.answer.now }
+
+pub returns-then-answer-lt4 : goal.returns-then-answer-lt4
+returns-then-answer-lt4 c = set_short (asked (goal.at.returns-then-answer-lt4 c).Start) c.if-answer-lt4.true
+
+pub returns-in-Refused : goal.returns-in-Refused
+returns-in-Refused c =
+    let q = asked (goal.at.returns-in-Refused c).Start in
+    let made = rw c.in-Refused.is at c.search_set-outcome.ensures in
+    set_refused q c.if-answer-lt4.false _ _ _ made c.number.ensures
+
+pub returns-in-Accepted : goal.returns-in-Accepted
+returns-in-Accepted c =
+    let q = asked (goal.at.returns-in-Accepted c).Start in
+    let made = rw c.in-Accepted.is at c.search_set-outcome.ensures in
+    set_accepted q c.if-answer-lt4.false _ _ _ _ made (rw c.stop_of.ensures at c.four.ensures)

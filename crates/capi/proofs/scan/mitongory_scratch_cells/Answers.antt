@@ -1,0 +1,34 @@
+-- `capi::scan::mitongory_scratch_cells` meets its contract: an unknown method or few answer cells refuse, else the answer is that of
+-- `search::scratch_cells::scratch_cells`.
+-- Assumes nothing.
+use mathlib.Core.Path.{refl, sym, ap}
+use Rattle.capi.specs.Scan.{number_tells, cells_told}
+use Rattle.capi.proofs.Telling.{refusing}
+use Rattle.capi.proofs.Calling.{none_told, refusal_told, number_told}
+use Rattle.capi.proofs.scan.mitongory_scratch_cells.Goals as goal
+
+pub returns-in_default : goal.returns-in_default
+unfolding cells_told
+returns-in_default c =
+    let named = c.in_default.is in
+    let unknown = rw named at (sym c.method_of-named.ensures) in
+    rw unknown (refusing _ _)
+
+pub returns-then-answer-lt1 : goal.returns-then-answer-lt1
+unfolding cells_told
+returns-then-answer-lt1 c =
+    let named = c.in-Known.is in
+    let known = rw named at (sym c.method_of-named.ensures) in
+    rw known (none_told (λ v. v) _ _ _ c.if-answer-lt1.true refl)
+
+pub returns-in-Refused : goal.returns-in-Refused
+unfolding cells_told
+returns-in-Refused c =
+    let told = rw c.in-Refused.is at c.scratch_cells-told.ensures in
+    rw (rw c.in-Known.is at (sym c.method_of-named.ensures)) (refusal_told (λ v. v) _ _ _ c.if-answer-lt1.false (ap number_tells told) c.number.ensures)
+
+pub returns-in-Cells : goal.returns-in-Cells
+unfolding cells_told
+returns-in-Cells c =
+    let told = rw c.in-Cells.is at c.scratch_cells-told.ensures in
+    rw (rw c.in-Known.is at (sym c.method_of-named.ensures)) (number_told (λ v. v) _ _ _ c.if-answer-lt1.false (ap number_tells told) c.one.ensures)

@@ -1,0 +1,21 @@
+-- `capi::sitting::mitongory_mark_sitting` meets its contract: few answer cells refuse, else answer and report are those of
+-- `marking::mark_sitting`.
+-- Assumes nothing.
+use mathlib.Core.Path.{refl, ap}
+use native.Mathlib.Omega.{arith}
+use Rattle.capi.specs.Sitting.{totals_tell}
+use Rattle.capi.proofs.Calling.{none_filled, refusal_filled, number_filled, marked}
+use Rattle.capi.proofs.sitting.mitongory_mark_sitting.Goals as goal
+
+pub returns-then-answer-lt3 : goal.returns-then-answer-lt3
+returns-then-answer-lt3 c = marked (none_filled (omega arith) refl)
+
+pub returns-in-Refused : goal.returns-in-Refused
+returns-in-Refused c =
+    let told = rw c.in-Refused.is at c.mark_sitting-marked.ensures.answer in
+    marked (refusal_filled (omega arith) (ap totals_tell told) c.mark_sitting-marked.ensures.report c.number.ensures)
+
+pub returns-in-Accepted : goal.returns-in-Accepted
+returns-in-Accepted c =
+    let told = rw c.in-Accepted.is at c.mark_sitting-marked.ensures.answer in
+    marked (number_filled (omega arith) (ap totals_tell told) c.mark_sitting-marked.ensures.report c.three.ensures)
