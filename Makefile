@@ -14,26 +14,28 @@ SHELL := bash
 PREFIX ?= /usr/local
 to := $(DESTDIR)$(abspath $(PREFIX))
 version := $(shell sed -n 's/^.define MITONGORY_VERSION "\(.*\)"/\1/p' include/mitongory.h)
-sources := $(shell find crates crates.txt)
+sources := $(shell find crates -name out -prune -o -type f -print) crates.txt
 
-# Runs rt. Its progress goes to standard error as it comes, without the names of all functions that are proved.
+# Runs rt in a crate's folder. Its progress goes to standard error as it comes, without the names of all functions that are
+# proved. Crates below are proved first.
 rt = @command -v rt >/dev/null || { echo "make: the Rattle toolchain is missing: no 'rt' on the PATH" >&2; exit 1; }; \
-	rt $(1) 2>&1 | grep --line-buffered -vE ': proved$$|^(library|logic|axioms|linked)\b|^note: no function' >&2
+	cd crates/$(1) && rt $(2) 2>&1 | \
+	{ grep --line-buffered -vE ': proved$$|^(library|statements|crate|logic|axioms|linked)\b|^(rt: )?note: |^checked ' || :; } >&2
 
-run:
-	$(call rt,check hits)
+run: target/bin/hits
 	@target/bin/hits <crates/hits/stdin
 
 lib: target/lib/libmitongory.a
 
 # The copy is put in place only when it is whole.
 target/lib/libmitongory.a: $(sources)
-	$(call rt,staticlib capi)
-	@mkdir -p $(@D) && cp target/staticlib/libcapi.a $@.part && mv -f $@.part $@
+	$(call rt,capi,lib)
+	@mkdir -p $(@D) && cp crates/capi/out/libcapi.a $@.part && mv -f $@.part $@
 
+# rt builds a program where it runs it: what it prints here goes to standard error.
 target/bin/hits: $(sources)
-	$(call rt,check hits)
-	@touch $@
+	$(call rt,hits,run <stdin)
+	@mkdir -p $(@D) && cp crates/hits/out/hits $@.part && mv -f $@.part $@
 
 install: target/lib/libmitongory.a target/bin/hits
 	install -D -m 644 include/mitongory.h $(to)/include/mitongory.h

@@ -390,7 +390,7 @@ ELSEWHERE = [
     ("capi/src/scan.rt", [(NAMED_IN_SEARCH, "method_of(method + 1);\n    if b {")], "another method asked for"),
     ("capi/src/scan.rt", [(NAMED_IN_SEARCH, "let method = 1;\n    method_of(method);\n    if b {")], "another method asked for"),
     ("search/src/lib.rt", [("pub fn search(", "pub fn find(")], "cannot find search::Mark::search"),
-    ("plain/src/lib.rt", [("use bits::load;", "use bits::loads;")], "cannot find load::word_near_end"),
+    ("plain/src/lib.rt", [("use bits::{ByteNo, Place, load};", "use bits::{ByteNo, Place, loads};")], "cannot find load::word_near_end"),
     ("bits/src/load.rt", [("fn join(", "fn joined(")], "cannot find join"),
     ("bits/src/lib.rt", [("impl Place {", "trait Held {}\nimpl Place {")], "no item begins with trait"),
 ]

@@ -131,6 +131,8 @@ class Program:
         with open(os.path.join(os.path.dirname(os.path.abspath(crates)), "crates.txt"), encoding="utf-8") as lines:
             for line in lines:
                 name, colon, below = line.split("#")[0].partition(":")
+                # A static library has a second word, and other crates may have settings there.
+                name = name.split()[0] if name.split() else name
                 if colon:
                     self.sees[name.strip()] = below.split()
         for name in self.sees:
@@ -242,7 +244,7 @@ class Program:
         i = 0
         while i < len(tokens):
             if tokens[i] == "{":
-                at = 1
+                at = i + 1
                 while at < len(tokens) - 1:
                     comma = until(tokens[:-1], at, ",")
                     self.used(tokens[at:comma], path, module)
