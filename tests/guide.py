@@ -9,6 +9,7 @@ usage: guide.py [PAGE...]"""
 import ctypes
 import os
 import re
+import shutil
 import subprocess
 import sys
 import tempfile
@@ -333,20 +334,26 @@ def rattle(block, where, folder, printed):
     """A Rattle program over the crates, and what it prints: run with no proof, by the interpreter and compiled."""
     name = "guide"
     files = {
-        "crates.txt": page("crates.txt") + "%s: lines search rules bits io libc\n" % name,
+        "crates.txt": page("crates.txt") + "%s: lines search rules bits\n" % name,
         "crates/%s/src/main.rt" % name: "\n".join(block) + "\n",
-        "crates/%s/stdout" % name: "".join(line + "\n" for line in printed),
     }
     with tempfile.TemporaryDirectory(dir=folder) as repository:
         os.makedirs(os.path.join(repository, "crates", name, "src"))
         for crate in os.listdir(os.path.join(ROOT, "crates")):
-            os.symlink(os.path.join(ROOT, "crates", crate), os.path.join(repository, "crates", crate))
+            from_there = os.path.join(ROOT, "crates", crate)
+            shutil.copytree(from_there, os.path.join(repository, "crates", crate), ignore=shutil.ignore_patterns("out"))
         for path, text in files.items():
             with open(os.path.join(repository, path), "w") as f:
                 f.write(text)
-        piped = dict(stdout=subprocess.PIPE, stderr=subprocess.STDOUT)
-        done = subprocess.run(["rt", "try", name], timeout=SECONDS, cwd=repository, **piped)
-    check("" if done.returncode == 0 else done.stdout.decode(), "", where)
+        done = subprocess.run(
+            ["rt", "try"],
+            stdout=subprocess.PIPE,
+            stderr=subprocess.PIPE,
+            timeout=SECONDS,
+            cwd=os.path.join(repository, "crates", name),
+        )
+    check("" if done.returncode == 0 else done.stderr.decode(), "", where)
+    check(done.stdout.decode().splitlines(), printed, where)
 
 
 def console(block, where):
@@ -405,17 +412,17 @@ def refusals():
     crate = named(page("rust/src/refusal.rs"), r"^    (\w+) = (\d+),")
     check(crate, rules, "refusals of the Rust crate against the guide")
     for path, name in [
-        ("crates/search/specs/Verdict.antt", "numberOfRefusal"),
-        ("crates/set/specs/Promise.antt", "numberOfRefusal"),
-        ("crates/eight/specs/Eight.antt", "numberOf"),
-        ("crates/positions/specs/Promise.antt", "(?:write|read)Refusal"),
-        ("crates/marking/specs/Promise.antt", "markRefusal"),
+        ("crates/search/specs/Verdict.antt", "number_of_refusal"),
+        ("crates/set/specs/Promise.antt", "number_of_refusal"),
+        ("crates/eight/specs/Eight.antt", "number_of"),
+        ("crates/positions/specs/Promise.antt", "(?:write|read)_refusal"),
+        ("crates/marking/specs/Promise.antt", "mark_refusal"),
     ]:
         defined = named(page(path), r"^%s (\w+) = (\d+)$" % name)
         check(len(defined) > 1, True, "refusals of " + path)
         check(defined, {number: rules.get(number) for number in defined}, "refusals of %s against the guide" % path)
     for path, whose in [("search/specs/Verdict.antt", "a search's"), ("set/specs/Promise.antt", "a set's")]:
-        ordered = named(page("crates/" + path), r"^numberOfRefusal (\w+) = (\d+)$")
+        ordered = named(page("crates/" + path), r"^number_of_refusal (\w+) = (\d+)$")
         check(list(ordered), [number for number in guide if number in ordered], "the order of %s refusals" % whose)
 
 

@@ -304,7 +304,7 @@ def unwritten():
         yield "full disk", got, (0, b"hits: cannot write: No space left on device\n")
         for name, action, want in [
             ("closed pipe, signal ignored", signal.SIG_IGN, (0, b"hits: cannot write: Broken pipe\n")),
-            ("closed pipe", signal.SIG_DFL, (-signal.SIGPIPE, b"")),
+            ("closed pipe", signal.SIG_DFL, (0, b"hits: cannot write: Broken pipe\n")),
         ]:
             out = closed_pipe()
             got = run_unwritten(data, out, action)
