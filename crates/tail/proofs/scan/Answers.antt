@@ -1,7 +1,6 @@
-use borrow.Author.Tests.{ltb-false, eqb-true, eqb-false}
+use borrow.Author.Tests.{eqb-true, eqb-false}
 use borrow.Author.Rules.{scaled_Fits}
 use mathlib.Core.Path.{◌≡◌, refl, sym, ap, ◌∙◌}
-use mathlib.Core.Logic.{⊎_elim}
 use mathlib.Core.Bool.{Bool, true, false}
 use mathlib.Core.List.{List}
 use Prim.Native.Nat.{ℕ, ◌+◌, ◌-◌, ◌/◌, ◌^◌, ◌≤◌, ◌<◌, min}
@@ -72,8 +71,8 @@ told c =
     let move_of : (x r : ℕ) → let k = c.masks_of-k.result in Longest k.m k.zeros k.ones x r → Moves k x (c.args.known.m - r) = λ x r longest. record { length = r; longest = longest; is = ap (λ (m : ℕ). m - r) (sym c.masks_of-k.ensures.0) } in
     let l = c.loop-at in
     elim c.if-x-last.branch [
-      then-x-last w ↦ rw (w.last-is, w.far-is, w.found-is) (move_of _ _ w.longest-then-x-last.ensures, refl, refl)
-    | else-x-last w ↦ let same : c.window-x.result ≡ l.last = w.if-x-last.false in rw (w.last-is, w.far-is, w.found-is, same) (l.invariant.2, l.invariant.3, refl)
+      | then-x-last w ↦ rw (w.last-is, w.far-is, w.found-is) (move_of _ _ w.longest-then-x-last.ensures, refl, refl)
+      | else-x-last w ↦ let same : c.window-x.result ≡ l.last = w.if-x-last.false in rw (w.last-is, w.far-is, w.found-is, same) (l.invariant.2, l.invariant.3, refl)
     ]
 
 -- the next mark
@@ -115,8 +114,8 @@ one c moves stands falls room =
     let w = pattern_in c.args.pattern.now c.args.fixed.now c.args.known in
     let alone = finds_alone t w l.at in
     elim c.if-found.branch [
-      then-found+else-list-hits b ↦ rw (b.hits-is, b.list-is) (alone_hit Tail t w l.at l.list l.hits alone _ moves (stands b.if-found.true) b.if-list-hits.false)
-    | else-found b ↦ rw (b.hits-is, b.list-is) (alone_miss Tail t w l.at l.list l.hits alone _ moves (falls b.if-found.false) room)
+      | then-found+else-list-hits b ↦ rw (b.hits-is, b.list-is) (alone_hit Tail t w l.at l.list l.hits alone _ moves (stands b.if-found.true) b.if-list-hits.false)
+      | else-found b ↦ rw (b.hits-is, b.list-is) (alone_miss Tail t w l.at l.list l.hits alone _ moves (falls b.if-found.false) room)
     ]
 
 pub masks_of-k-requires : goal.masks_of-k-requires
@@ -219,7 +218,7 @@ returns c =
           rw (c.cut.ensures, end)
           (l.invariant.5
           (elim c.loop-at-test.branch [
-            then-loop-at-test+else-steps-budget u ↦ let spent : a.budget ≤ l.steps = u.if-steps-budget.false in omega arith
-          | else-loop-at-test u ↦ one_made l.steps l.at a.s.0 _ (omega arith) here (rw end at u.loop-at-test.false) (λ e. (l.invariant.4 e).0)
+            | then-loop-at-test+else-steps-budget u ↦ let spent : a.budget ≤ l.steps = u.if-steps-budget.false in omega arith
+            | else-loop-at-test u ↦ one_made l.steps l.at a.s.0 _ (omega arith) here (rw end at u.loop-at-test.false) (λ e. (l.invariant.4 e).0)
           ]));
     }
