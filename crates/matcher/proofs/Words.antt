@@ -10,7 +10,7 @@ use native.Mathlib.Decide.{dec_lt}
 use native.Mathlib.Omega.{arith}
 use lib.Bits.{bit_and, bit_xor, and_le_r}
 use lib.Dec.{eqb, ltb}
-use borrow.Author.Tests.{eqb-true, eq-eqb, ltb-true, lt-ltb, ltb-false}
+use borrow.Author.Tests.{eqb-true, eq-eqb, ltb-true, lt-ltb}
 use Rattle.bits.specs.Packed.{bit_at, bit_of, bits_at, weight}
 use Rattle.bits.proofs.Weight.{weight_lt, weight_and, weight_xor, weight_shr, weight_out, weight_zero, same_weights, bit_or_bit}
 use Rattle.bits.proofs.Run.{bit_lt, bit_of_bits}
