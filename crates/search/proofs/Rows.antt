@@ -1,15 +1,19 @@
--- The table of refusals read row by row: the tests that a check makes, in their order, and the refusal that each comes to.
+-- The table of refusals read row by row: the tests that a check makes, in their order, and the refusal that each comes to. Then
+-- two refusals of the calls for H(B) and for the cells of scratch.
 -- Assumes nothing.
 use mathlib.Core.Path.{◌≡◌}
 use mathlib.Core.Bool.{true, false}
-use Prim.Native.Nat.{◌^◌, ◌≤◌, ◌<◌}
+use mathlib.Core.List.{List}
+use Prim.Native.Nat.{ℕ, ◌^◌, ◌≤◌, ◌<◌}
+use native.Mathlib.Omega.{arith}
 use borrow.Author.Tests.{lt-ltb, le-ltb, eq-eqb, ne_eqb}
 use lib.ListN.{length}
 use Rattle.bits.specs.Packed.{bytes_for}
+use Rattle.rules.specs.declared.Method.{Method}
 use Rattle.rules.specs.Occurrence.{places}
 use Rattle.rules.specs.Step.{unfit}
 use Rattle.rules.specs.Scratch.{scratch_cells}
-use Rattle.search.specs.Verdict.{Request, Verdict, rows, judge, refused, accepted}
+use Rattle.search.specs.Verdict.{Request, Verdict, rows, judge, refused, accepted, hash_verdict, scratch_verdict}
 use Rattle.search.specs.Parts.{check_verdict}
 
 module _ (q : Request) where
@@ -63,3 +67,15 @@ module _ (q : Request) where
                   pub no_row : scratch_cells q.method q.pattern.count ≤ length q.scratch → Comes (accepted tt)
                   unfolding check_verdict rows judge
                   no_row h = simp (le-ltb _ _ a, le-ltb _ _ b, ne_eqb _ _ c, le-ltb _ _ d, le-ltb _ _ e, le-ltb _ _ e', f, le-ltb _ _ g, le-ltb _ _ h)
+
+-- a pattern of too few bits for H(B)
+pub hash_unfit : (bytes fixed : List ℕ) (m B : ℕ) → (m ≡ 0 → ⊥) → bytes_for m ≤ length bytes → bytes_for m ≤ length fixed → m < 8
+    → refused 5 ≡ hash_verdict (record { bytes = bytes; fixed = fixed; count = m }) B
+unfolding hash_verdict judge
+hash_unfit bytes fixed m B some enough there few =
+    simp (ne_eqb m 0 some, le-ltb 2048 m (omega arith), le-ltb _ _ enough, le-ltb _ _ there, lt-ltb m 8 few)
+
+-- a pattern that no method takes
+pub cells_long : (x : Method) (m : ℕ) → 2048 < m → refused 3 ≡ scratch_verdict x m
+unfolding scratch_verdict judge
+cells_long x m h = simp (ne_eqb m 0 (omega arith), lt-ltb 2048 m h)

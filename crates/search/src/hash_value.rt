@@ -14,6 +14,7 @@ pub enum HashAnswer {
 }
 
 // H(B) of the first m bits of the pattern, with refusals 3, 4, 17 and 5.
+#[tactic(auto, using(crate::proofs::Rows::hash_unfit))]
 pub fn hash_value(pattern: &[u8], fixed: &[u8], m: u64, value: u8) -> HashAnswer
     ensures { hash_answer result ≡ hash_verdict (pattern_of pattern.now fixed.now m) value }
 {

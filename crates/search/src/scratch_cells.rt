@@ -12,6 +12,7 @@ pub enum CellsAnswer {
 }
 
 // The cells that the method takes for a pattern of m bits, with refusals 3 and 5.
+#[tactic(auto, using(crate::proofs::Rows::cells_long))]
 pub fn scratch_cells(method: Method, m: u64) -> CellsAnswer
     ensures { cells_answer result ≡ scratch_verdict method m }
 {

@@ -20,7 +20,7 @@ one c =
     let a = c.args in
     let l = c.loop-at in
     advanced_step a.method (text_in a.text.now a.known) (pattern_in a.pattern.now a.fixed.now a.known) a.mark.at.0 a.budget a.list.now 0 l.at l.steps l.hits l.list (omega arith) l.invariant
-    _ _ _ _ (omega (arith, c.loop-at-test.true, c.requires.ready.inside)) c.if-steps-budget.true c.step-one.ensures
+    _ _ _ _ (omega (arith, c.loop-at-test.true, c.requires.ready.inside)) (omega (arith, l.invariant.within)) c.step-one.ensures
 
 pub overflow_sub-end : goal.overflow_sub-end
 overflow_sub-end c =
@@ -55,7 +55,7 @@ returns-then-one c =
     ran_to_cut a.method (text_in a.text.now a.known) (pattern_in a.pattern.now a.fixed.now a.known) a.mark.at.0 a.budget a.list.now _ _ _ _ (rw full at (one (goal.at.returns-then-one c).After-step-one))
 
 pub overflow_add-steps : goal.overflow_add-steps
-overflow_add-steps c = omega (arith, c.if-steps-budget.true, c.ranges.budget)
+overflow_add-steps c = omega (arith, c.loop-at.invariant.within, c.ranges.budget)
 
 pub overflow_sub-budget : goal.overflow_sub-budget
 overflow_sub-budget c = let made = rw c.if-one.false at (one (goal.at.overflow_sub-budget c).After-step-one) in omega (arith, made.within)

@@ -6,7 +6,7 @@ use Rattle.matcher.specs.Progress.{text_in, pattern_in, Advanced}
 use Rattle.search.proofs.call.run.Given as goal
 
 abbrev pub invariant-loop-at : goal.invariant-loop-at
-invariant-loop-at l = Advanced l.method (text_in l.text l.known) (pattern_in l.pattern l.fixed l.known) l.initial.at l.budget l.initial.list 0 l.at l.steps l.hits false l.list
+invariant-loop-at l = Advanced l.method (text_in l.text l.known) (pattern_in l.pattern l.fixed l.known) l.fn.mark.at.0 l.budget l.initial.list 0 l.at l.steps l.hits false l.list
 
 abbrev pub decreases-loop-at : goal.decreases-loop-at
 decreases-loop-at l = l.budget - l.steps

@@ -2,6 +2,7 @@
 -- Assumes nothing.
 use mathlib.Core.Path.{sym, ◌∙◌}
 use mathlib.Core.List.{[]}
+use native.Mathlib.Omega.{arith}
 use Rattle.matcher.specs.Progress.{text_of, pattern_of}
 use Rattle.search.specs.Verdict.{Request}
 use Rattle.search.proofs.Rows.{row_1, row_2, row_3_none, row_3_many, row_4, row_17, row_5, row_6, row_7, no_row}
@@ -41,7 +42,7 @@ pub returns-then-fixed-bytes_for : goal.returns-then-fixed-bytes_for
 unfolding asked
 returns-then-fixed-bytes_for c =
     row_17 (asked (goal.at.returns-then-fixed-bytes_for c).Start) c.if-n-gt1073741824.false (rw c.bytes_for.ensures at c.if-text-bytes_for.false) c.if-m-eq0.false c.if-m-gt2048.false
-    (rw c.bytes_for-2.ensures at c.if-pattern-bytes_for.false) (rw c.bytes_for-3.ensures at c.if-fixed-bytes_for.true)
+    (rw c.bytes_for-2.ensures at c.if-pattern-bytes_for.false) (omega (arith, c.bytes_for-3.ensures, c.if-fixed-bytes_for.true))
 
 pub returns-then-does_not_fit : goal.returns-then-does_not_fit
 unfolding asked
@@ -56,7 +57,7 @@ returns-then-places-mark c =
     row_6 (asked (goal.at.returns-then-places-mark c).Start)
     c.if-n-gt1073741824.false (rw c.bytes_for.ensures at c.if-text-bytes_for.false) c.if-m-eq0.false c.if-m-gt2048.false (rw c.bytes_for-2.ensures at c.if-pattern-bytes_for.false) (rw c.bytes_for-3.ensures at c.if-fixed-bytes_for.false)
     (sym c.does_not_fit.ensures ∙ c.if-does_not_fit.false)
-    (rw c.places.ensures at c.if-places-mark.true)
+    (omega (arith, c.places.ensures, c.if-places-mark.true, c.if-m-eq0.false))
 
 pub returns-then-scratch-scratch_cells : goal.returns-then-scratch-scratch_cells
 unfolding asked

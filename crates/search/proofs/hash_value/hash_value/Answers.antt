@@ -27,18 +27,11 @@ returns-then-fixed-bytes_for c =
     let few = rw c.bytes_for-2.ensures at c.if-fixed-bytes_for.true in
     simp (ne_eqb _ _ c.if-m-eq0.false, le-ltb _ _ c.if-m-gt2048.false, le-ltb _ _ enough, lt-ltb _ _ few)
 
-pub returns-then-m-lt8 : goal.returns-then-m-lt8
-unfolding hash_verdict judge
-returns-then-m-lt8 c =
-    let enough = rw c.bytes_for.ensures at c.if-pattern-bytes_for.false in
-    let there = rw c.bytes_for-2.ensures at c.if-fixed-bytes_for.false in
-    simp (ne_eqb _ _ c.if-m-eq0.false, le-ltb _ _ c.if-m-gt2048.false, le-ltb _ _ enough, le-ltb _ _ there, lt-ltb _ _ c.if-m-lt8.true)
-
 pub hash_of-requires : goal.hash_of-requires
 hash_of-requires c =
     let enough = rw c.bytes_for.ensures at c.if-pattern-bytes_for.false in
     let there = rw c.bytes_for-2.ensures at c.if-fixed-bytes_for.false in
-    record { some_bits = omega arith; few_bits = c.if-m-gt2048.false; bytes_there = enough; fixed_there = there; fit = le-ltb _ _ c.if-m-lt8.false }
+    record { some_bits = omega arith; few_bits = c.if-m-gt2048.false; bytes_there = enough; fixed_there = there; fit = le-ltb c.args.m 8 (omega arith) }
 
 pub returns : goal.returns
 unfolding hash_verdict judge
@@ -46,4 +39,4 @@ returns c =
     let enough = rw c.bytes_for.ensures at c.if-pattern-bytes_for.false in
     let there = rw c.bytes_for-2.ensures at c.if-fixed-bytes_for.false in
     simp
-    (ne_eqb _ _ c.if-m-eq0.false, le-ltb _ _ c.if-m-gt2048.false, le-ltb _ _ enough, le-ltb _ _ there, le-ltb _ _ c.if-m-lt8.false, c.hash_of.ensures)
+    (ne_eqb _ _ c.if-m-eq0.false, le-ltb _ _ c.if-m-gt2048.false, le-ltb _ _ enough, le-ltb _ _ there, le-ltb c.args.m 8 (omega arith), c.hash_of.ensures)
