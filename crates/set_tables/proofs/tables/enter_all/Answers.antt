@@ -1,4 +1,3 @@
-use borrow.Author.Rules.{rules}
 use borrow.Author.Rules.{part_to_end}
 use mathlib.Core.Path.{ap, ◌∙◌}
 use mathlib.Core.List.{List}

@@ -14,8 +14,8 @@ loop-x-preserved c =
     let l = c.loop-x in (
       search rules,
       elim c.if-same_where.branch [
-        then-same_where w ↦ rw w.cells-is (half_set a.at a.value a.care a.flag a.cells.now l.x l.cells l.invariant.1 (omega arith) (omega arith) (sym c.same_where.ensures ∙ w.if-same_where.true))
-      | else-same_where w ↦ rw w.cells-is (half_keep a.at a.value a.care a.flag a.cells.now l.x l.cells l.invariant.1 (sym c.same_where.ensures ∙ w.if-same_where.false))
+        | then-same_where w ↦ rw w.cells-is (half_set a.at a.value a.care a.flag a.cells.now l.x l.cells l.invariant.1 (omega arith) (omega arith) (sym c.same_where.ensures ∙ w.if-same_where.true))
+        | else-same_where w ↦ rw w.cells-is (half_keep a.at a.value a.care a.flag a.cells.now l.x l.cells l.invariant.1 (sym c.same_where.ensures ∙ w.if-same_where.false))
       ],
     )
 
