@@ -28,7 +28,7 @@ use Rattle.search.proofs.Verdict.{judge_accepted, accepted_judge}
 use Rattle.set.specs.declared.Outcome.{Outcome}
 use Rattle.set.specs.declared.Outcome.TheVariants.{Accepted, Refused}
 use Rattle.set_rules.specs.PatternSet.{PatternSet, start_of, pattern_at, largest, set_places}
-use Rattle.set_rules.specs.Hits.{Hit, hit_at, standing, hits_at}
+use Rattle.set_rules.specs.Hits.{hit_at, standing, hits_at}
 use Rattle.set_rules.specs.SetMachine.{SetRun, halted, no_room, onward, set_run}
 use Rattle.set_rules.specs.Verdict.{Request, rows_from, rows, machine, verdict}
 use Rattle.set.specs.Promise.{number_of_refusal, Searched}

@@ -69,7 +69,8 @@ slice_bounds-block-end c = sym (found_size (goal.at.slice_bounds-block-end c).Af
 pub block-one-requires : goal.block-one-requires
 block-one-requires c =
     let to = c.reach-to.ensures in
-    let here = at_base (goal.at.block-one-requires c).After-look-any in record { blocked = record {
+    let here = at_base (goal.at.block-one-requires c).After-look-any in record {
+      blocked = record {
         good = c.requires.allowed.patterns;
         few_bits = c.requires.allowed.few_bits;
         kept = c.requires.kept.0;
@@ -81,7 +82,9 @@ block-one-requires c =
         near = omega (arith, to, here, c.loop-at-test.true);
         high = omega (arith, to);
         few_places = omega (arith, to, limited (goal.at.block-one-requires c).After-reach-limit);
-      }; had_in_bounds = omega (arith, c.loop-at.invariant.0.fits, listing_length (text-of (goal.at.block-one-requires c).Start) (set-of (goal.at.block-one-requires c).Start) c.args.s.0 c.args.list.now 0 c.loop-at.list c.loop-at.at c.loop-at.hits c.loop-at.invariant.0) }
+      };
+      had_in_bounds = omega (arith, c.loop-at.invariant.0.fits, listing_length (text-of (goal.at.block-one-requires c).Start) (set-of (goal.at.block-one-requires c).Start) c.args.s.0 c.args.list.now 0 c.loop-at.list c.loop-at.at c.loop-at.hits c.loop-at.invariant.0);
+    }
 
 pub overflow_sub-result : goal.overflow_sub-result
 overflow_sub-result c = omega (arith, c.block-one.ensures.listing.from, c.loop-at.invariant.0.from)

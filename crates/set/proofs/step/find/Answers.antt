@@ -91,12 +91,16 @@ overflow_cast-i c = omega (arith, low c, c.requires.good_set.0.few)
 
 pub stands-requires : goal.stands-requires
 stands-requires c =
-    let l = c.loop-f in record { good_set = (c.requires.good_set.0, low c); kept = c.requires.kept; n_bound = (
-          c.requires.n_bound.0,
-          c.requires.n_bound.1,
-          lowest_begins (text-of (goal.at.stands-requires c).Start) (set-of (goal.at.stands-requires c).Start) c.args.p.0 c.args.flags (small (goal.at.stands-requires c).Start) (marked (goal.at.stands-requires c).Start) c.args.numbers.now
-              l.numbers l.f l.from l.count l.invariant c.loop-f-test.true,
-        ) }
+    let l = c.loop-f in record {
+      good_set = (c.requires.good_set.0, low c);
+      kept = c.requires.kept;
+      n_bound = (
+        c.requires.n_bound.0,
+        c.requires.n_bound.1,
+        lowest_begins (text-of (goal.at.stands-requires c).Start) (set-of (goal.at.stands-requires c).Start) c.args.p.0 c.args.flags (small (goal.at.stands-requires c).Start) (marked (goal.at.stands-requires c).Start) c.args.numbers.now
+            l.numbers l.f l.from l.count l.invariant c.loop-f-test.true,
+      );
+    }
 
 pub offset_bounds-numbers-count : goal.offset_bounds-numbers-count
 offset_bounds-numbers-count c = omega (arith, room (goal.at.offset_bounds-numbers-count c).In-loop-f, c.well_formed)

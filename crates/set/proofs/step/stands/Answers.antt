@@ -1,6 +1,5 @@
 -- `set::step::stands` meets its contract: the pattern fits or not, and what follows its first 32 bits is compared.
 -- Assumes nothing.
-use borrow.Author.Rules.{rules}
 use mathlib.Core.Path.{◌≡◌}
 use Prim.Native.Nat.{◌+◌, ◌≤◌}
 use native.Mathlib.Omega.{arith}
@@ -73,8 +72,11 @@ slice_bounds-same-count-2 c = inside_fixed (goal.at.slice_bounds-same-count-2 c)
 
 pub same-requires : goal.same-requires
 same-requires c =
-    let a = c.args in record { m_nonzero = ((good (goal.at.same-requires c).Start).some_bits, (good (goal.at.same-requires c).Start).few_bits, c.requires.n_bound.1); head_of = head_from (given (goal.at.same-requires c).Start) a.i (get_or a.rows.now a.i 0) (start_is (goal.at.same-requires c).Start) (get_or a.rows.now (64 + a.i) 0) (get_or a.rows.now (128 + a.i) 0)
-          (c.requires.kept.0.heads_are a.i c.requires.good_set.1) }
+    let a = c.args in record {
+      m_nonzero = ((good (goal.at.same-requires c).Start).some_bits, (good (goal.at.same-requires c).Start).few_bits, c.requires.n_bound.1);
+      head_of = head_from (given (goal.at.same-requires c).Start) a.i (get_or a.rows.now a.i 0) (start_is (goal.at.same-requires c).Start) (get_or a.rows.now (64 + a.i) 0) (get_or a.rows.now (128 + a.i) 0)
+          (c.requires.kept.0.heads_are a.i c.requires.good_set.1);
+    }
 
 pub returns : goal.returns
 returns c =
