@@ -5,16 +5,15 @@
 
 mod report;
 
-ghost use Rattle.std.specs.Prelude.{OnOk, IfSome};
+ghost use Rattle.std.specs.Prelude.{◌≡◌, ◌≤◌, OnOk, IfOk, IfSome, length, take};
 ghost use Rattle.std.specs.Io.KnownBytes.{Appends};
 ghost use Rattle.hits.specs.Printed.{printed};
 
-use std::alloc::Global;
 use std::io;
 use std::io::{Read, Write};
 
 // One byte more than the longest good input: longer input fills the buffer, and is bad.
-const INPUT: u64 = 6147;
+const INPUT: usize = 6147;
 
 // Five lines with 4,096 places each.
 const PRINTED: usize = 225420;
@@ -26,20 +25,34 @@ enum Failure {
     Writing(io::Error),
 }
 
-// Reads the input and writes what is printed for it.
-fn run<R: Read, W: Write>(alloc: Global, input: R, out: &mut W) -> Result<(), Failure>
-where
-    R: Drop,
-    ensures { OnOk result (IfSome (R.remaining input) (λ s. Appends (W.contents out.old) (W.contents out.new) (printed s))) }
+// Reads until the buffer is full or the input ends, and tells how many bytes there are.
+fn read_front<R: Read>(input: &mut R, buf: &mut [u8]) -> io::Result<usize>
+    ensures within { IfOk result (λ n. n ≤ length buf.new) }
+    ensures front { IfOk result (λ n. IfSome (R.remaining input.old) (λ s. take n buf.new ≡ take (length buf.new) s)) }
 {
-    let mut bytes = Vec::new(alloc);
-    let mut front = input.take(INPUT);
-    if let Err(e) = front.read_to_end(&mut bytes) {
-        return Err(Failure::Reading(e));
+    let mut at = 0;
+    while at < buf.len() {
+        let n = input.read(&mut buf[at..])?;
+        if n == 0 {
+            return Ok(at);
+        }
+        at += n;
     }
+    Ok(at)
+}
+
+// Reads the input and writes what is printed for it.
+fn run<R: Read, W: Write>(input: &mut R, out: &mut W) -> Result<(), Failure>
+    ensures { OnOk result (IfSome (R.remaining input.old) (λ s. Appends (W.contents out.old) (W.contents out.new) (printed s))) }
+{
+    let mut bytes = [0u8; INPUT];
+    let n = match read_front(input, &mut bytes) {
+        Ok(n) => n,
+        Err(e) => return Err(Failure::Reading(e)),
+    };
     let mut text = [0u8; PRINTED];
-    let n = report::report(&bytes, &mut text);
-    match out.write_all(&text[..n]) {
+    let k = report::report(&bytes[..n], &mut text);
+    match out.write_all(&text[..k]) {
         Ok(()) => Ok(()),
         Err(e) => Err(Failure::Writing(e)),
     }
@@ -60,7 +73,7 @@ fn cannot_write(rt: &(impl Eprint + Alloc), error: &io::Error) -> io::Result<()>
 }
 
 fn main(rt: HostRuntime) -> io::Result<()> {
-    match run(rt.alloc(), rt.reader(), &mut io::writer(&rt)) {
+    match run(&mut rt.reader(), &mut io::writer(&rt)) {
         Ok(()) => Ok(()),
         Err(Failure::Reading(error)) => Err(error),
         Err(Failure::Writing(error)) => {

@@ -1,10 +1,8 @@
-use mathlib.Core.Path.{ap, ◌∙◌}
-use Rattle.hits.specs.Printed.{printed}
+-- `hits::run` meets its contract: what is written is what is printed for the first bytes, which decide.
+-- Assumes nothing.
 use Rattle.hits.proofs.Running.{written}
 use Rattle.hits.proofs.run.Goals as goal
 
-pub returns-in-Ok : goal.returns-in-Ok
-returns-in-Ok g c =
-    written g.R.Read.remaining c.take-front.result c.args.input c.new-bytes.result.items _ _ _ _ c.take-front.ensures.limit c.take-front.ensures.inner c.new-bytes.ensures.items c.in_default.ensures.bytes
-    (c.report-n.ensures.is ∙ ap printed c.deref.ensures.value)
-    c.in-Ok.ensures.bytes
+pub returns-in-Ok-write_all : goal.returns-in-Ok-write_all
+returns-in-Ok-write_all g c =
+    written _ c.read_front.new.buf _ _ _ _ c.read_front.auto.buf c.in-Ok.ensures.front c.report-k.ensures.is c.in-Ok-write_all.ensures.bytes
