@@ -2,21 +2,25 @@
 -- Assumes nothing.
 use mathlib.Core.Path.{◌≡◌, refl, sym, ap, ◌∙◌}
 use mathlib.Core.Bool.{Bool, true, false}
+use borrow.Author.Tests.{ltb-true}
 use mathlib.Core.List.{List, ◌++◌, append-nil}
-use Prim.Native.Nat.{ℕ, ◌≤◌, ◌<◌}
+use Prim.Native.Nat.{ℕ, ◌≤◌, ◌<◌, ◌-◌}
 use native.Mathlib.Nat.{add-zero, zero-add, sub-zero}
 use native.Mathlib.Decide.{dec_le}
 use native.Mathlib.Omega.{arith}
-use lib.ListN.{length, drop}
-use lib.Seq.{sets-eq}
+use lib.ListN.{length, drop, take}
+use lib.Seq.{sets-eq, length-sets, length-take-le}
 use Rattle.bits.specs.Packed.{Packed}
 use Rattle.rules.specs.declared.Method.{Method}
 use Rattle.rules.specs.Pattern.{Pattern}
 use Rattle.rules.specs.Occurrence.{places}
 use Rattle.rules.specs.Machine.{Run, run, after, stopped}
-use Rattle.matcher.specs.Progress.{Writing, Advanced}
+use Rattle.rules.specs.Step.{finds}
+use Rattle.matcher.specs.Progress.{Writing, Stepped, Advanced}
 use Rattle.search.specs.Parts.{Ran, ending_at}
 use Rattle.matcher.proofs.Progress.{run_to_budget, run_to_end}
+use Rattle.matcher.proofs.Writing.{writing_length}
+use Rattle.matcher.proofs.Advancing.{advanced_step}
 
 -- what is written stands in front, and the cells after it are as they were
 pub writing_front : (before found list : List ℕ) (hits : ℕ) → Writing before 0 found list hits → list ≡ found ++ drop (length found) before
@@ -67,3 +71,42 @@ module _ (x : Method) (t : Packed) (w : Pattern) (s budget : ℕ) (before : List
       refl
       refl
       (writing_front before a.found list hits a.writing)
+
+  -- the budget is at an end
+  pub ran_spent : (list : List ℕ) (at steps hits : ℕ) → Advanced x t w s budget before 0 at steps hits false list → budget ≤ steps
+      → Ran x t w s budget before at steps hits false list
+  ran_spent list at steps hits a b = ran_to_end list at steps hits a (λ _. omega (arith, a.within))
+
+  -- a step of its own, after those made, found no cell
+  pub ran_cut_step : (list list' : List ℕ) (at steps hits at' hits' : ℕ) (full : Bool) → Advanced x t w s budget before 0 at steps hits false list
+      → Stepped x t w at list hits at' hits' full list' → full ≡ true → at < places t w → steps < budget
+      → Ran x t w s budget before at' steps hits' true list'
+  ran_cut_step list list' at steps hits at' hits' full a u e l b =
+      ran_to_cut list' at' steps hits'
+      (rw e at (advanced_step x t w s budget before 0 at steps hits list (omega arith) a at' hits' full list' l b u))
+
+  -- a step that leaves a cell free found no place without one
+  pub cell_free : (list list' : List ℕ) (at steps hits at' hits' : ℕ) (full : Bool) → Advanced x t w s budget before 0 at steps hits false list
+      → Stepped x t w at list hits at' hits' full list' → (hits' ≡ length list' → ⊥) → full ≡ false
+  cell_free list list' at steps hits at' hits' false a u n = refl
+  cell_free list list' at steps hits at' hits' true a u n =
+      let few : length list - hits < length (finds x t w at) = ltb-true _ _ (sym u.is_full) in
+      let all : length (take (length list - hits) (finds x t w at)) ≡ length list - hits = length-take-le (length list - hits) (finds x t w at) (omega arith) in
+      let same : length list ≡ length before = writing_length before 0 a.found list hits a.writing in
+      let size : length list' ≡ length list = ap length u.cells ∙ length-sets list hits (take (length list - hits) (finds x t w at)) in
+      absurd (n (omega (arith, u.count, a.writing.fits)))
+
+  -- what a turn begins with: the steps made so far, and the ways out that they lead to
+  pub record Turn (at steps hits : ℕ) (list : List ℕ) : Type 0 where
+    pub made : Advanced x t w s budget before 0 at steps hits false list
+    pub spent : budget ≤ steps → Ran x t w s budget before at steps hits false list
+    pub full : (list' : List ℕ) (at' hits' : ℕ) (no_cell : Bool) → Stepped x t w at list hits at' hits' no_cell list' → no_cell ≡ true
+        → at < places t w → steps < budget → Ran x t w s budget before at' steps hits' true list'
+
+  pub turn : (list : List ℕ) (at steps hits : ℕ) → Advanced x t w s budget before 0 at steps hits false list → Turn at steps hits list
+  turn list at steps hits a =
+      record {
+        made = a;
+        spent = ran_spent list at steps hits a;
+        full = λ list' at' hits' no_cell u e l b. ran_cut_step list list' at steps hits at' hits' no_cell a u e l b;
+      }

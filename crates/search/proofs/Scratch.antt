@@ -1,8 +1,8 @@
 -- The scratch is room for the tables and nothing else: two calls that differ in it alone, each with enough cells, come to the
 -- same answer, list and mark. And the figure that is told by itself is just what a search needs.
 -- Assumes nothing.
-use Prim.Native.Nat.{ℕ, ◌≤◌}
-use mathlib.Core.Path.{◌≡◌, refl, sym, ap, ◌∙◌}
+use Prim.Native.Nat.{ℕ}
+use mathlib.Core.Path.{◌≡◌, refl, sym, ◌∙◌}
 use mathlib.Core.Bool.{Bool, true, false, cond, ◌&&◌}
 use mathlib.Core.List.{List, [], ◌∷◌}
 use native.Mathlib.Omega.{arith}
@@ -11,10 +11,9 @@ use lib.Dec.{eqb}
 use lib.ListN.{length}
 use Rattle.rules.specs.declared.Method.{Method}
 use Rattle.rules.specs.Scratch.{scratch_cells}
-use Rattle.rules.specs.Machine.{Run}
 use Rattle.search.specs.declared.Outcome.{Outcome}
 use Rattle.search.specs.declared.Outcome.TheVariants.{Accepted, Refused}
-use Rattle.search.specs.Verdict.{Request, Row, Verdict, refused, accepted, rows, judge, machine, verdict, scratch_verdict, Searched}
+use Rattle.search.specs.Verdict.{Request, Row, refused, accepted, rows, judge, machine, verdict, scratch_verdict, Searched}
 use Rattle.search.specs.Scratch.{with_scratch, Enough, SameAnswers, Needs}
 use Rattle.search.proofs.Verdict.{judge_accepted, accepted_fail}
 use Rattle.search.proofs.Answers.{unique}

@@ -1,12 +1,12 @@
 -- `search::call::run` meets its contract: each turn is one step and many after it, by the laws of steps made one after the other.
 -- Assumes nothing.
-use mathlib.Core.Bool.{false}
 use Prim.Native.Nat.{◌-◌}
-use Rattle.matcher.specs.Progress.{text_in, pattern_in, Advanced}
+use Rattle.matcher.specs.Progress.{text_in, pattern_in}
+use Rattle.search.proofs.Ending.{Turn}
 use Rattle.search.proofs.call.run.Given as goal
 
 abbrev pub invariant-loop-at : goal.invariant-loop-at
-invariant-loop-at l = Advanced l.method (text_in l.text l.known) (pattern_in l.pattern l.fixed l.known) l.fn.mark.at.0 l.budget l.initial.list 0 l.at l.steps l.hits false l.list
+invariant-loop-at l = Turn l.method (text_in l.text l.known) (pattern_in l.pattern l.fixed l.known) l.fn.mark.at.0 l.budget l.initial.list l.at l.steps l.hits l.list
 
 abbrev pub decreases-loop-at : goal.decreases-loop-at
 decreases-loop-at l = l.budget - l.steps
