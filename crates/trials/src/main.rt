@@ -38,7 +38,6 @@ fn one(kind: usize, i: usize, x: usize) -> bool {
         19 => single::drawn_hash(1, x, &mut s),
         20 => drawn::every_length(1, i, x, &mut s, &mut list),
         25 => single::every_eight(i, &mut s),
-        26 => rows::each_length(i, x, &mut s, &mut list),
         _ => drawn::one(kind, i, x, &mut s, &mut list),
     }
 }
@@ -60,7 +59,7 @@ fn many<W: Write>(out: &mut W, names: &[u8], counts: &[usize], kind: usize) -> i
 }
 
 // The kinds: their names, and where each one's name ends and how many cases it has.
-const NAMES: [u8; 864] = *b"\
+const NAMES: [u8; 832] = *b"\
     plain, whole                    \
     hash, whole                     \
     skip, whole                     \
@@ -86,10 +85,9 @@ const NAMES: [u8; 864] = *b"\
     sets, lists of twelve calls     \
     sets, refusals, neighbours      \
     sets, one pattern as plain      \
-    eight bits, each n up to 70     \
-    rows in the scratch             ";
+    eight bits, each n up to 70     ";
 
-const COUNTS: [usize; 54] = [
+const COUNTS: [usize; 52] = [
     13,
     30000,
     12,
@@ -142,15 +140,13 @@ const COUNTS: [usize; 54] = [
     3000,
     28,
     single::EIGHTS,
-    20,
-    rows::LENGTHS,
 ];
 
 fn main(rt: HostRuntime) -> io::Result<()> {
     let mut out = io::writer(&rt);
     let mut wrong: usize = 0;
     let mut kind: usize = 0;
-    while kind < 27 {
+    while kind < 26 {
         let more = many(&mut out, &NAMES, &COUNTS, kind)?;
         wrong = number::plus(wrong, more);
         kind += 1;
