@@ -8,11 +8,11 @@ use mathlib.Core.List.Memᴰ
 use mathlib.Core.List.{List, [], ◌∷◌, ◌++◌, map, append_assoc, append-nil, Memᴰ}
 use native.Mathlib.Nat.{add-zero, zero-add, suc-add, not-suc-le-zero, sub_self}
 use native.Mathlib.Omega.{arith}
-use lib.ListN.{length, length-map, length-append}
+use lib.ListN.{length, length-map}
 use Rattle.bits.specs.Packed.{Packed}
 use Rattle.rules.specs.Ranges.{keep, among}
-use Rattle.rules.specs.Occurrence.{places, Occurs, occurs}
-use Rattle.rules.proofs.Ranges.{Kept, among_mem, mem_among, among_rising, among_length, eq_or_below}
+use Rattle.rules.specs.Occurrence.{places, occurs}
+use Rattle.rules.proofs.Ranges.{among_mem, mem_among, eq_or_below}
 use Rattle.rules.proofs.Occurrence.{occurs_iff}
 use Rattle.set_rules.specs.PatternSet.{PatternSet, pattern_at, largest, set_places}
 use Rattle.set_rules.specs.Hits.{Hit, hit_at, IsHit, standing, hits_at, hits_of, all_hits, Before, InOrder, cells_of, pairs_of}
@@ -190,7 +190,7 @@ numbers_order s i (suc k) f = go (f i) (numbers_order s (suc i) k f)
       λ g m.
           let r = at_mem s (among f (suc i) k) g m in
           let later = (among_mem f (suc i) k g.number r.1).low in
-          inr (sym r.0, omega (arith, later)),
+          grind (arith, r.0, later),
       ih,
     )
     go false ih = ih

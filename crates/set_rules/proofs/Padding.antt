@@ -1,13 +1,13 @@
 -- "Bits from n on never matter": two texts of n bits that agree below n give the same answer to every call for a set. What a
 -- pattern has at wild bits and after its last bit never matters either: `same_hits` of Order.antt, with each pattern in its place.
 -- Assumes nothing.
-use Prim.Native.Nat.{ℕ, zero, suc, ◌+◌, ◌-◌, ◌<◌}
-use mathlib.Core.Path.{◌≡◌, refl, sym, ap, ap₂, ◌∙◌}
-use mathlib.Core.Bool.{Bool, true, false, ◌&&◌, cond}
+use Prim.Native.Nat.{ℕ, zero, suc, ◌+◌, ◌-◌}
+use mathlib.Core.Path.{◌≡◌, refl, ap}
+use mathlib.Core.Bool.{Bool, true, false, ◌&&◌}
 use mathlib.Core.List.{List, map}
 use native.Mathlib.Omega.{arith}
 use borrow.Author.Tests.{ltb-true}
-use lib.Dec.{leb, ltb}
+use lib.Dec.{ltb}
 use lib.ListN.{length}
 use Rattle.bits.specs.Packed.{Packed, AgreeBelow}
 use Rattle.rules.specs.Pattern.{Pattern, agrees}
@@ -17,7 +17,7 @@ use Rattle.rules.proofs.Padding.{text_bits}
 use Rattle.search.proofs.Padding.{judge_same, SameText}
 use Rattle.set_rules.specs.PatternSet.{PatternSet, pattern_at, set_places}
 use Rattle.set_rules.specs.Hits.{hit_at, standing, hits_at}
-use Rattle.set_rules.specs.SetMachine.{SetRun, halted, no_room, onward, set_run}
+use Rattle.set_rules.specs.SetMachine.{halted, set_run}
 use Rattle.set_rules.specs.Verdict.{Request, rows, room_in, machine, verdict}
 
 -- the request with another text

@@ -13,7 +13,7 @@ use lib.Dec.{eqb}
 use lib.ListN.{length, length-append}
 use borrow.Author.Tests.{eqb-true, eqb-false, lt-ltb, le-ltb, le-leb, lt-leb}
 use Rattle.bits.specs.Packed.{Packed}
-use Rattle.rules.specs.Machine.{Ending, done, spent, full, stopped}
+use Rattle.rules.specs.Machine.{done, spent, stopped}
 use Rattle.rules.proofs.Ranges.{eq_or_below}
 use Rattle.rules.proofs.Machine.{done_not_spent, done_not_full, spent_not_full}
 use Rattle.set_rules.specs.PatternSet.{PatternSet, set_places}
