@@ -220,3 +220,9 @@ allowed t ws s (a, (b, (c, more))) =
           };
       inside = ltb-false _ _ parts.1.0;
     }
+
+-- a set of more than 64 patterns, by the tests that a caller makes
+pub set_large : (text bytes fixed counts : List ℕ) (n s : ℕ) → n ≤ 2 ^ 30 → bytes_for n ≤ length text → (length counts ≡ 0 → ⊥) → 64 < length counts
+    → refused 18 ≡ judge {A = Unit {0}} (rows (record { bytes = text; count = n }) (record { bytes = bytes; fixed = fixed; counts = counts }) s) tt
+set_large text bytes fixed counts n s a b c h =
+    row_18_many (record { bytes = text; count = n }) (record { bytes = bytes; fixed = fixed; counts = counts }) s a b c h

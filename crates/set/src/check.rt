@@ -97,6 +97,7 @@ fn check_pattern(patterns: &[u8], fixed: &[u8], start: ByteNo, m: u64) -> Checke
 }
 
 // The first refusal whose condition holds.
+#[tactic(auto, using(crate::proofs::Rows::set_large))]
 pub fn check(
     text: &[u8],
     n: u64,

@@ -10,7 +10,7 @@ use Rattle.set_rules.specs.PatternSet.{PatternSet, start_of, pattern_at, set_pla
 use Rattle.set_rules.specs.Verdict.{pattern_rows}
 use Rattle.set_tables.specs.Parts.{set_of}
 use Rattle.set.specs.Parts.{check_of}
-use Rattle.set.proofs.Rows.{row_1, row_2, row_18_none, row_18_many, row_of, row_6, no_row, rows_none, passing, one_good, start_small}
+use Rattle.set.proofs.Rows.{row_1, row_2, row_18_none, row_of, row_6, no_row, rows_none, passing, one_good, start_small}
 use Rattle.set_tables.proofs.Entering.{start_next}
 use Rattle.set.proofs.check.check.Goals as goal
 use Rattle.set.proofs.check.check.Goals.{In-Passed, Start}
@@ -42,9 +42,6 @@ returns-then-text-bytes_for c = row_2 (asked_text (goal.at.returns-then-text-byt
 pub returns-then-counts-eq0 : goal.returns-then-counts-eq0
 returns-then-counts-eq0 c = row_18_none (asked_text (goal.at.returns-then-counts-eq0 c).Start) (asked_set (goal.at.returns-then-counts-eq0 c).Start) c.args.mark.0 c.if-n-gt1073741824.false (rw c.bytes_for.ensures at c.if-text-bytes_for.false) c.if-counts-eq0.true
 
-pub returns-then-counts-gt64 : goal.returns-then-counts-gt64
-returns-then-counts-gt64 c = row_18_many (asked_text (goal.at.returns-then-counts-gt64 c).Start) (asked_set (goal.at.returns-then-counts-gt64 c).Start) c.args.mark.0 c.if-n-gt1073741824.false (rw c.bytes_for.ensures at c.if-text-bytes_for.false) c.if-counts-eq0.false c.if-counts-gt64.true
-
 pub loop-i-init : goal.loop-i-init
 unfolding start_of
 loop-i-init c = (omega arith, refl, rw (rows_none (asked_set (goal.at.loop-i-init c).Start)) tt)
@@ -60,7 +57,7 @@ returns-in_default c =
     let is = c.in_default.is in
     let says = rw l.invariant.1 at c.check_pattern-one.ensures in
     ap check_of is
-    ∙ row_of (asked_text (goal.at.returns-in_default c).Start) (asked_set (goal.at.returns-in_default c).Start) c.args.mark.0 c.if-n-gt1073741824.false (rw c.bytes_for.ensures at c.if-text-bytes_for.false) c.if-counts-eq0.false c.if-counts-gt64.false l.i c.loop-i-test.true l.invariant.2 _ (sym says ∙ ap check_of is)
+    ∙ row_of (asked_text (goal.at.returns-in_default c).Start) (asked_set (goal.at.returns-in_default c).Start) c.args.mark.0 c.if-n-gt1073741824.false (rw c.bytes_for.ensures at c.if-text-bytes_for.false) c.if-counts-eq0.false (omega arith) l.i c.loop-i-test.true l.invariant.2 _ (sym says ∙ ap check_of is)
 
 pub bytes_for-requires-in-loop-i : goal.bytes_for-requires-in-loop-i
 bytes_for-requires-in-loop-i c = omega (arith, few c)
@@ -83,11 +80,11 @@ unfolding set_places
 returns-then-places-mark c =
     let l = c.loop-i in
     let all : l.i ≡ length c.args.counts.now = omega (arith, l.invariant.0) in
-    row_6 (asked_text (goal.at.returns-then-places-mark c).Start) (asked_set (goal.at.returns-then-places-mark c).Start) c.args.mark.0 c.if-n-gt1073741824.false (rw c.bytes_for.ensures at c.if-text-bytes_for.false) c.if-counts-eq0.false c.if-counts-gt64.false (rw all at l.invariant.2) (rw c.places.ensures at c.if-places-mark.true)
+    row_6 (asked_text (goal.at.returns-then-places-mark c).Start) (asked_set (goal.at.returns-then-places-mark c).Start) c.args.mark.0 c.if-n-gt1073741824.false (rw c.bytes_for.ensures at c.if-text-bytes_for.false) c.if-counts-eq0.false (omega arith) (rw all at l.invariant.2) (rw c.places.ensures at c.if-places-mark.true)
 
 pub returns : goal.returns
 unfolding set_places
 returns c =
     let l = c.loop-i in
     let all : l.i ≡ length c.args.counts.now = omega (arith, l.invariant.0) in
-    no_row (asked_text (goal.at.returns c).Start) (asked_set (goal.at.returns c).Start) c.args.mark.0 c.if-n-gt1073741824.false (rw c.bytes_for.ensures at c.if-text-bytes_for.false) c.if-counts-eq0.false c.if-counts-gt64.false (rw all at l.invariant.2) (rw c.places.ensures at c.if-places-mark.false)
+    no_row (asked_text (goal.at.returns c).Start) (asked_set (goal.at.returns c).Start) c.args.mark.0 c.if-n-gt1073741824.false (rw c.bytes_for.ensures at c.if-text-bytes_for.false) c.if-counts-eq0.false (omega arith) (rw all at l.invariant.2) (rw c.places.ensures at c.if-places-mark.false)
