@@ -1,7 +1,7 @@
 -- Two searches from C that differ in the scratch alone, each with enough cells, return the same and leave the same list and
 -- answer cells. And what `mitongory_scratch_cells` tells is just what the search needs.
 -- Assumes nothing.
-use Prim.Native.Nat.{ℕ, ◌≤◌, ◌<◌}
+use Prim.Native.Nat.{ℕ, ◌≤◌}
 use mathlib.Core.Path.{◌≡◌, refl, sym, ap, ◌∙◌}
 use mathlib.Core.Bool.{Bool, true, false}
 use mathlib.Core.List.{List}
@@ -14,7 +14,7 @@ use Rattle.search.specs.Verdict.{Verdict, refused, accepted, verdict, scratch_ve
 use Rattle.search.specs.Scratch as library
 use Rattle.search.proofs.Scratch as search
 use Rattle.capi.specs.Told.{result_of, answer_after, answer_cells_missing, unless_cells, Tells}
-use Rattle.capi.specs.Scan.{Named, known, unknown, method_named, Call, request_of, verdict_by, search_verdict, run_tells, list_after, figure_of, Searches, number_tells, cells_told}
+use Rattle.capi.specs.Scan.{Named, known, unknown, method_named, Call, request_of, verdict_by, search_verdict, run_tells, list_after, figure_of, Searches, cells_told}
 use Rattle.capi.specs.Scratch.{with_scratch, Enough, SameAnswers, Needs}
 
 -- ---- two calls that differ in the scratch alone

@@ -1,6 +1,7 @@
 -- `capi::pattern_set::mitongory_search_set` meets its contract: few answer cells refuse, else answer and list are those of
 -- `set::search_set`.
 -- Assumes nothing.
+use native.Mathlib.Omega.{arith}
 use Rattle.capi.specs.PatternSet.{SetCall}
 use Rattle.capi.proofs.PatternSet.{set_short, set_refused, set_accepted}
 use Rattle.capi.proofs.pattern_set.mitongory_search_set.Goals as goal
@@ -19,10 +20,10 @@ pub returns-in-Refused : goal.returns-in-Refused
 returns-in-Refused c =
     let q = asked (goal.at.returns-in-Refused c).Start in
     let made = rw c.in-Refused.is at c.search_set-outcome.ensures in
-    set_refused q c.if-answer-lt4.false _ _ _ made c.number.ensures
+    set_refused q (omega arith) _ _ _ made c.number.ensures
 
 pub returns-in-Accepted : goal.returns-in-Accepted
 returns-in-Accepted c =
     let q = asked (goal.at.returns-in-Accepted c).Start in
     let made = rw c.in-Accepted.is at c.search_set-outcome.ensures in
-    set_accepted q c.if-answer-lt4.false _ _ _ _ made (rw c.stop_of.ensures at c.four.ensures)
+    set_accepted q (omega arith) _ _ _ _ made (rw c.stop_of.ensures at c.four.ensures)

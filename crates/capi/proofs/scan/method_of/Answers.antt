@@ -2,6 +2,7 @@
 -- Assumes nothing.
 use mathlib.Core.Path.{refl}
 use borrow.Author.Tests.{ne_eqb}
+use native.Mathlib.Omega.{arith}
 use Rattle.capi.specs.Scan.{method_named}
 use Rattle.capi.proofs.scan.method_of.Goals as goal
 
@@ -29,5 +30,10 @@ pub returns-in_default : goal.returns-in_default
 unfolding method_named
 returns-in_default c =
     let k = c.args.k in
-    let no = c.in_default.in_default-own.rest in
-    rw (ne_eqb k 0 no.0.0.0.0.1, ne_eqb k 1 no.0.0.0.1, ne_eqb k 2 no.0.0.1, ne_eqb k 3 no.0.1, ne_eqb k 4 no.1) refl
+    rw (
+      ne_eqb k 0 (λ e. omega (arith, e)),
+      ne_eqb k 1 (λ e. omega (arith, e)),
+      ne_eqb k 2 (λ e. omega (arith, e)),
+      ne_eqb k 3 (λ e. omega (arith, e)),
+      ne_eqb k 4 (λ e. omega (arith, e)),
+    ) refl
