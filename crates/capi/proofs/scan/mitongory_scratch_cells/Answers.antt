@@ -21,14 +21,14 @@ returns-then-answer-lt1 c =
     let known = rw named at (sym c.method_of-named.ensures) in
     rw known (none_told (λ v. v) _ _ _ c.if-answer-lt1.true refl)
 
-pub returns-in-Refused : goal.returns-in-Refused
-unfolding cells_told
-returns-in-Refused c =
-    let told = rw c.in-Refused.is at c.scratch_cells-told.ensures in
-    rw (rw c.in-Known.is at (sym c.method_of-named.ensures)) (refusal_told (λ v. v) _ _ _ c.if-answer-lt1.false (ap number_tells told) c.number.ensures)
-
 pub returns-in-Cells : goal.returns-in-Cells
 unfolding cells_told
 returns-in-Cells c =
     let told = rw c.in-Cells.is at c.scratch_cells-told.ensures in
     rw (rw c.in-Known.is at (sym c.method_of-named.ensures)) (number_told (λ v. v) _ _ _ c.if-answer-lt1.false (ap number_tells told) c.one.ensures)
+
+pub returns-in-Refused : goal.returns-in-Refused
+unfolding cells_told
+returns-in-Refused c =
+    let told = rw c.in-Refused.is at c.scratch_cells-told.ensures in
+    rw (rw c.in-Known.is at (sym c.method_of-named.ensures)) (refusal_told (λ v. v) _ _ _ c.if-answer-lt1.false (ap number_tells told) c.number.ensures)
