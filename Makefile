@@ -14,7 +14,7 @@ SHELL := bash
 PREFIX ?= /usr/local
 to := $(DESTDIR)$(abspath $(PREFIX))
 version := $(shell sed -n 's/^.define MITONGORY_VERSION "\(.*\)"/\1/p' include/mitongory.h)
-sources := $(shell find crates -name out -prune -o -type f -print) crates.txt
+sources := $(shell find crates -name out -prune -o -print) crates.txt
 
 # Runs rt in a crate's folder. Its progress goes to standard error as it comes, without the names of all functions that are
 # proved. Crates below are proved first.
