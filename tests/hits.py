@@ -316,6 +316,16 @@ def main():
     global PROGRAM
     if len(sys.argv) > 1:
         PROGRAM = sys.argv[1]
+    else:
+        made = subprocess.run(
+            ["make", "-s", "target/bin/hits"],
+            cwd=os.path.dirname(HERE),
+            stdout=subprocess.PIPE,
+            stderr=subprocess.STDOUT,
+            check=False,
+        )
+        if made.returncode:
+            sys.exit(made.stdout.decode(errors="replace") + "tests/hits.py: make target/bin/hits failed")
     rng = random.Random(20261115)
     checks, wrong = 0, []
 
