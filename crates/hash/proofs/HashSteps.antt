@@ -20,7 +20,8 @@ use Rattle.rules.specs.Pattern.{Pattern}
 use Rattle.rules.specs.Occurrence.{places, Occurs, matches}
 use Rattle.rules.specs.Hash.{meets, hash_of, hash_again, last_eight, hash_finds, hash_next}
 use Rattle.rules.specs.Step.{finds, ahead, next}
-use Rattle.matcher.specs.Progress.{Ready, GoodPattern, Stepped}
+use Rattle.matcher.specs.Progress.{Stepped}
+use Rattle.matcher.specs.Ready.{Ready, GoodPattern}
 use Rattle.rules.proofs.Ranges.{not_true_false}
 use Rattle.rules.proofs.Occurrence.{matches_at, occurs_inside}
 use Rattle.rules.proofs.Hash.{LeastMeeting, again_least, occurs_meets, hash_compares}

@@ -20,7 +20,7 @@ use Rattle.rules.specs.Hash.{meets, hash_of}
 use Rattle.rules.proofs.Ranges.{not_true_false, eq_or_below}
 use Rattle.rules.proofs.Hash.{LeastMeeting, meets_where, meets_all, hash_least}
 use Rattle.matcher.specs.Words.{same_where}
-use Rattle.matcher.specs.Progress.{GoodPattern}
+use Rattle.matcher.specs.Ready.{GoodPattern}
 use Rattle.matcher.proofs.Chunks.{same_where_iff}
 use Rattle.matcher.proofs.Words.{same_where_word}
 

@@ -12,9 +12,11 @@ ghost use Rattle.hash_tables.specs.HashMoves.{Entered};
 ghost use Rattle.hash_tables.specs.HashWords.{United, Unions, LinedUp, FourMade, RowMade, RowsMade, AllUnset};
 ghost use Rattle.rules.specs.Scratch.{scratch_cells};
 ghost use Rattle.matcher.specs.Tables.{Prepared};
-ghost use Rattle.matcher.specs.Progress.{pattern_of, GoodPattern};
+ghost use Rattle.matcher.specs.Ready.{GoodPattern};
+ghost use Rattle.matcher.specs.Asked.{lent};
 
 use bits::{Place, load};
+use matcher::query::Pattern;
 use matcher::wild;
 use rules::Method;
 
@@ -32,19 +34,19 @@ fn double(cells: &mut [u64], size: usize)
 
 // The moves from m − 7 up, at which the pattern's first bits are the value's last. Before turn k the first 2^(k − 1) cells
 // hold the moves above m − k, and a value has that of the cell that its last k − 1 bits number.
-fn prepare_ends(pattern: &[u8], fixed: &[u8], m: u32, cells: &mut [u64])
-    requires good_pattern { GoodPattern Method.Hash (pattern_of pattern.now fixed.now m) }
-    requires all_fixed { AllFixed (pattern_of pattern.now fixed.now m) }
+fn prepare_ends(pattern: &Pattern, cells: &mut [u64])
+    requires good_pattern { GoodPattern Method.Hash (lent pattern.now) }
+    requires all_fixed { AllFixed (lent pattern.now) }
     requires in_bounds { 256 ≤ length cells.old }
-    ensures { Entered (pattern_of pattern.now fixed.now m) cells.old cells.new (m - 8) }
+    ensures { Entered (lent pattern.now) cells.old cells.new (pattern.now.m - 8) }
 {
-    let first = load::byte_at(pattern, Place(0));
-    cells[0] = m as u64;
+    let first = load::byte_at(pattern.bytes, Place(0));
+    cells[0] = pattern.m as u64;
     let mut size = 1usize;
     let mut k = 1u32;
     while k < 8 {
         double(cells, size);
-        cells[(first >> (8 - k)) as usize] = (m - k) as u64;
+        cells[(first >> (8 - k)) as usize] = (pattern.m - k) as u64;
         size *= 2;
         k += 1;
     }
@@ -52,13 +54,13 @@ fn prepare_ends(pattern: &[u8], fixed: &[u8], m: u32, cells: &mut [u64])
 }
 
 // The moves d, d − 1, .. of k values that the pattern shows whole, one after the other in one load.
-fn enter(pattern: &[u8], fixed: &[u8], m: u32, d: u32, k: u32, cells: &mut [u64])
-    requires d_bound { (d + 8 ≤ m) × (k ≤ d) × (k ≤ 57) × (256 ≤ length cells.old) }
-    requires all_fixed { AllFixed (pattern_of pattern.now fixed.now m) }
-    requires entered { Entered (pattern_of pattern.now fixed.now m) cells.old cells.old d }
-    ensures { Entered (pattern_of pattern.now fixed.now m) cells.old cells.new (d - k) }
+fn enter(pattern: &Pattern, d: u32, k: u32, cells: &mut [u64])
+    requires d_bound { (d + 8 ≤ pattern.now.m) × (k ≤ d) × (k ≤ 57) × (256 ≤ length cells.old) }
+    requires all_fixed { AllFixed (lent pattern.now) }
+    requires entered { Entered (lent pattern.now) cells.old cells.old d }
+    ensures { Entered (lent pattern.now) cells.old cells.new (d - k) }
 {
-    let mut x = load::word_at(pattern, Place(m - 8 - d));
+    let mut x = load::word_at(pattern.bytes, Place(pattern.m - 8 - d));
     let mut r = 0u32;
     while r < k {
         cells[(x >> 56) as usize] = (d - r) as u64;
@@ -68,19 +70,19 @@ fn enter(pattern: &[u8], fixed: &[u8], m: u32, d: u32, k: u32, cells: &mut [u64]
 }
 
 // All moves of a pattern without wild bits, the greatest first: the least one of a value is entered last.
-fn prepare_fixed(pattern: &[u8], fixed: &[u8], m: u32, cells: &mut [u64])
-    requires good_pattern { GoodPattern Method.Hash (pattern_of pattern.now fixed.now m) }
-    requires all_fixed { AllFixed (pattern_of pattern.now fixed.now m) }
+fn prepare_fixed(pattern: &Pattern, cells: &mut [u64])
+    requires good_pattern { GoodPattern Method.Hash (lent pattern.now) }
+    requires all_fixed { AllFixed (lent pattern.now) }
     requires in_bounds { 256 ≤ length cells.old }
-    ensures { Entered (pattern_of pattern.now fixed.now m) cells.old cells.new 0 }
+    ensures { Entered (lent pattern.now) cells.old cells.new 0 }
 {
-    prepare_ends(pattern, fixed, m, cells);
-    let mut d = m - 8;
+    prepare_ends(pattern, cells);
+    let mut d = pattern.m - 8;
     while 57 < d {
-        enter(pattern, fixed, m, d, 57, cells);
+        enter(pattern, d, 57, cells);
         d -= 57;
     }
-    enter(pattern, fixed, m, d, d, cells);
+    enter(pattern, d, d, cells);
 }
 
 // With wild bits many values meet the condition at one move. So the moves are taken 57 at a time, by words of which bit e stands
@@ -124,11 +126,11 @@ fn unite(cells: &mut [u64], g: usize)
 }
 
 // The words for the moves after d, and their unions.
-fn line_up(pattern: &[u8], fixed: &[u8], m: u32, d: u32, cells: &mut [u64])
-    requires { (d < m) × (m ≤ 2048) × (512 ≤ length cells.old) }
-    ensures { LinedUp (pattern_of pattern.now fixed.now m) d cells.old cells.new }
+fn line_up(pattern: &Pattern, d: u32, cells: &mut [u64])
+    requires { (d < pattern.now.m) × (pattern.now.m ≤ 2048) × (512 ≤ length cells.old) }
+    ensures { LinedUp (lent pattern.now) d cells.old cells.new }
 {
-    wild::line_up(pattern, fixed, m, d + 1, cells, WORDS);
+    wild::line_up(pattern, d + 1, cells, WORDS);
     let mut g = 0usize;
     while g < 4 {
         unite(cells, g);
@@ -206,30 +208,30 @@ fn unset_all(cells: &mut [u64])
 }
 
 // All moves of any pattern, the least first, until each value has one.
-fn prepare_wild(pattern: &[u8], fixed: &[u8], m: u32, cells: &mut [u64])
-    requires good_pattern { GoodPattern Method.Hash (pattern_of pattern.now fixed.now m) }
+fn prepare_wild(pattern: &Pattern, cells: &mut [u64])
+    requires good_pattern { GoodPattern Method.Hash (lent pattern.now) }
     requires in_bounds { 512 ≤ length cells.old }
-    ensures { Prepared Method.Hash (pattern_of pattern.now fixed.now m) cells.old cells.new }
+    ensures { Prepared Method.Hash (lent pattern.now) cells.old cells.new }
 {
     unset_all(cells);
     let mut d = 0u32;
     let mut unset = 1u64;
-    while d < m && unset != 0 {
-        line_up(pattern, fixed, m, d, cells);
+    while d < pattern.m && unset != 0 {
+        line_up(pattern, d, cells);
         unset = settle(cells, d);
         d += 57;
     }
 }
 
 // The table: the quick way for a pattern without wild bits.
-pub fn prepare(pattern: &[u8], fixed: &[u8], m: u32, cells: &mut [u64])
-    requires good_pattern { GoodPattern Method.Hash (pattern_of pattern.now fixed.now m) }
-    requires m_in_bounds { scratch_cells Method.Hash m ≤ length cells.old }
-    ensures { Prepared Method.Hash (pattern_of pattern.now fixed.now m) cells.old cells.new }
+pub fn prepare(pattern: &Pattern, cells: &mut [u64])
+    requires good_pattern { GoodPattern Method.Hash (lent pattern.now) }
+    requires m_in_bounds { scratch_cells Method.Hash pattern.now.m ≤ length cells.old }
+    ensures { Prepared Method.Hash (lent pattern.now) cells.old cells.new }
 {
-    if wild::all_fixed(pattern, fixed, m) {
-        prepare_fixed(pattern, fixed, m, cells);
+    if wild::all_fixed(pattern) {
+        prepare_fixed(pattern, cells);
     } else {
-        prepare_wild(pattern, fixed, m, cells);
+        prepare_wild(pattern, cells);
     }
 }

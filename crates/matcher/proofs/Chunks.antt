@@ -18,7 +18,7 @@ use Rattle.rules.specs.Occurrence.{matches}
 use Rattle.rules.proofs.Pattern.{agrees_by}
 use Rattle.rules.proofs.Ranges.{not_true_false, same_test, implies_to, to_implies, every_at, to_every}
 use Rattle.rules.proofs.Occurrence.{matches_at, to_matches}
-use Rattle.matcher.specs.Progress.{text_of, pattern_of}
+use Rattle.matcher.specs.Ready.{text_of, pattern_of}
 use Rattle.matcher.specs.Words.{same_where}
 
 below_or_from : (j o : ℕ) → (j < o) ⊎ (o ≤ j)

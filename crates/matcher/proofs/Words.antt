@@ -18,7 +18,7 @@ use Rattle.rules.specs.Ranges.{every}
 use Rattle.rules.specs.Pattern.{Pattern, agrees}
 use Rattle.rules.proofs.Pattern.{agrees_by}
 use Rattle.rules.proofs.Ranges.{same_test, every_at, to_every}
-use Rattle.matcher.specs.Progress.{pattern_of, HeadOf}
+use Rattle.matcher.specs.Ready.{pattern_of, HeadOf}
 use Rattle.matcher.specs.Words.{same_where}
 use Rattle.matcher.proofs.Chunks.{same_where_iff}
 

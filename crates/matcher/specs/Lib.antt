@@ -2,4 +2,7 @@
 pub mod Words
 pub mod Lined
 pub mod Tables
+pub mod Ready
+pub mod Asked
 pub mod Progress
+pub mod Gives

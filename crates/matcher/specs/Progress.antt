@@ -1,54 +1,12 @@
 -- What a method and the loop over it promise each other: a part of the machine's run, and one step with its list.
-use Rattle.std.specs.Prelude.{ℕ, ◌+◌, ◌-◌, ◌^◌, ◌≤◌, ◌<◌, min, ◌≡◌, Bool, true, false, cond, List, ltb, eqb, length, get_or, take}
-use Rattle.std.specs.Int.Bits.{bit_and}
+use Rattle.std.specs.Prelude.{ℕ, ◌+◌, ◌-◌, ◌≤◌, ◌≡◌, Bool, true, false, cond, List, ltb, length, get_or, take}
 use Rattle.std.proofs.lemmas.List.Edits.{sets}
-use Rattle.bits.specs.Packed.{Packed, bytes_for, bit_of}
+use Rattle.bits.specs.Packed.{Packed}
 use Rattle.rules.specs.declared.Method.{Method}
-use Rattle.rules.specs.Ranges.{every}
-use Rattle.rules.specs.Pattern.{Pattern, agrees}
+use Rattle.rules.specs.Pattern.{Pattern}
 use Rattle.rules.specs.Occurrence.{places}
-use Rattle.rules.specs.Step.{unfit, finds, next}
-use Rattle.rules.specs.Scratch.{scratch_cells}
+use Rattle.rules.specs.Step.{finds, next}
 use Rattle.rules.specs.Machine.{full, run, after}
-use Rattle.matcher.specs.declared.compare.Known.{Known}
-use Rattle.matcher.specs.Tables.{Tables}
-
--- bytes and a bit count as the text
-abbrev pub text_of : List ℕ → ℕ → Packed
-text_of bytes n = record { bytes = bytes; count = n }
-
--- bytes, those of the second run and a bit count as the pattern
-abbrev pub pattern_of : List ℕ → List ℕ → ℕ → Pattern
-pattern_of bytes fixed m = record { bytes = bytes; fixed = fixed; count = m }
-
--- the same with the bit counts that a search knows
-abbrev pub text_in : List ℕ → Known → Packed
-text_in bytes k = text_of bytes k.n
-
-abbrev pub pattern_in : List ℕ → List ℕ → Known → Pattern
-pattern_in bytes fixed k = pattern_of bytes fixed k.m
-
--- A word of 64 bits, under the mask, is the head just if its first 57 bits, or as many as the pattern has, agree with the
--- pattern: what one load of eight bytes shows, wherever in its byte a place lies.
-abbrev pub HeadOf : Pattern → ℕ → ℕ → Type 0
-HeadOf w head mask = (x : ℕ) → eqb (bit_and x mask) head ≡ every (min w.count 57) (λ j. agrees w j (bit_of 64 x j))
-
--- What a pattern is when it has passed the refusals, and the scratch.
-pub record GoodPattern (x : Method) (w : Pattern) : Type 0 where
-  pub some_bits : 0 < w.count
-  pub few_bits : w.count ≤ 2048
-  pub bytes_there : bytes_for w.count ≤ length w.bytes
-  pub fixed_there : bytes_for w.count ≤ length w.fixed
-  pub fit : unfit x w.count ≡ false
-
--- What a step may rely on: text and pattern have passed the refusals, the pattern fits into the text, the tables are made.
-pub record Ready (x : Method) (t : Packed) (w : Pattern) (cells : List ℕ) : Type 0 where
-  pub few_bits : t.count ≤ 2 ^ 30
-  pub bytes_there : bytes_for t.count ≤ length t.bytes
-  pub pattern : GoodPattern x w
-  pub inside : w.count ≤ t.count
-  pub tables : Tables x w cells
-  pub room : scratch_cells x w.count ≤ length cells
 
 -- k steps from the mark s find these places, each with a cell, and leave the mark at: whatever budget and cells are left
 unfoldable pub Reaches : Method → Packed → Pattern → ℕ → ℕ → List ℕ → ℕ → Type 0

@@ -5,17 +5,19 @@
 ghost use Rattle.std.specs.Prelude.{◌≡◌, ◌↔◌, true, ◌+◌, ◌*◌, ◌^◌, ◌≤◌, ◌<◌, length};
 ghost use Rattle.rules.specs.Wild.{AllFixed};
 ghost use Rattle.matcher.specs.Lined.{Ending, Words, Only, Paired};
-ghost use Rattle.matcher.specs.Progress.{pattern_of};
+ghost use Rattle.matcher.specs.Asked.{lent};
 
+use crate::query::Pattern;
 use bits::{Place, load};
 
 const ALL: u64 = 18446744073709551615;
 
 // Whether no bit of the pattern is wild.
-pub fn all_fixed(pattern: &[u8], fixed: &[u8], m: u32) -> bool
-    requires { (0 < m) × (m ≤ 2048) }
-    ensures { (result ≡ true) ↔ AllFixed (pattern_of pattern.now fixed.now m) }
+pub fn all_fixed(pattern: &Pattern) -> bool
+    requires { (0 < pattern.now.m) × (pattern.now.m ≤ 2048) }
+    ensures { (result ≡ true) ↔ AllFixed (lent pattern.now) }
 {
+    let Pattern { fixed, m, .. } = *pattern;
     let mut o = 0u32;
     while o + 64 < m {
         if load::word_at_byte(fixed, Place(o).byte()) != ALL {
@@ -51,12 +53,12 @@ fn pair_up(cells: &mut [u64], from: usize, to: usize, size: usize, k: u32)
 }
 
 // The words for the moves from d on, in 22 cells: those of one bit, then those of two, then those of four.
-pub fn line_up(pattern: &[u8], fixed: &[u8], m: u32, d: u32, cells: &mut [u64], at: usize)
-    requires { (d ≤ m) × (at + 22 ≤ length cells.old) }
-    ensures { Words (pattern_of pattern.now fixed.now m) d 4 (at + 6) cells.new × Only at (at + 22) cells.old cells.new }
+pub fn line_up(pattern: &Pattern, d: u32, cells: &mut [u64], at: usize)
+    requires { (d ≤ pattern.now.m) × (at + 22 ≤ length cells.old) }
+    ensures { Words (lent pattern.now) d 4 (at + 6) cells.new × Only at (at + 22) cells.old cells.new }
 {
-    let p = ending(pattern, m, d);
-    let f = ending(fixed, m, d);
+    let p = ending(pattern.bytes, pattern.m, d);
+    let f = ending(pattern.fixed, pattern.m, d);
     cells[at] = (p & f) ^ ALL;
     cells[at + 1] = (f & (p ^ ALL)) ^ ALL;
     pair_up(cells, at, at + 2, 2, 1);

@@ -6,7 +6,7 @@ use Prim.Native.Nat.{ℕ}
 use Rattle.bits.specs.Packed.{Packed}
 use Rattle.rules.specs.declared.Method.{Method}
 use Rattle.rules.specs.Pattern.{Pattern}
-use Rattle.matcher.specs.Progress.{Ready}
+use Rattle.matcher.specs.Ready.{Ready}
 
 -- what the steps of the arm's method rely on
 pub ready_as : {x y : Method} {t : Packed} {w : Pattern} {cells : List ℕ} → x ≡ y → Ready x t w cells → Ready y t w cells

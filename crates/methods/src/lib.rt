@@ -6,7 +6,9 @@ ghost use Rattle.std.specs.Prelude.{◌≤◌, ◌<◌, length};
 ghost use Rattle.rules.specs.Occurrence.{places};
 ghost use Rattle.rules.specs.Scratch.{scratch_cells};
 ghost use Rattle.matcher.specs.Tables.{Prepared};
-ghost use Rattle.matcher.specs.Progress.{pattern_of, text_in, pattern_in, HeadOf, GoodPattern, Ready, Stepped, Advanced};
+ghost use Rattle.matcher.specs.Asked.{text_in, pattern_in};
+ghost use Rattle.matcher.specs.Progress.{Stepped, Advanced};
+ghost use Rattle.matcher.specs.Ready.{pattern_of, HeadOf, GoodPattern, Ready};
 
 use bits::Place;
 use matcher::compare::Known;

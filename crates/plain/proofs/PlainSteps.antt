@@ -15,7 +15,8 @@ use Rattle.rules.specs.Pattern.{Pattern}
 use Rattle.rules.specs.Occurrence.{places, matches}
 use Rattle.rules.specs.Plain.{plain_finds}
 use Rattle.rules.specs.Step.{finds, ahead, next}
-use Rattle.matcher.specs.Progress.{Ready, Reaches, Stepped, Advanced}
+use Rattle.matcher.specs.Progress.{Reaches, Stepped, Advanced}
+use Rattle.matcher.specs.Ready.{Ready}
 use Rattle.matcher.specs.Tables.{row_chunks}
 use Rattle.plain.specs.RowCells.{cell_fits}
 use Rattle.rules.proofs.Plain.{rows_match}

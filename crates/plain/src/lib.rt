@@ -9,7 +9,9 @@ ghost use Rattle.rules.specs.Occurrence.{places};
 ghost use Rattle.rules.specs.Scratch.{scratch_cells};
 ghost use Rattle.matcher.specs.Tables.{row_chunks, Prepared};
 ghost use Rattle.plain.specs.RowCells.{cell_fits, shifted_bit, Filled};
-ghost use Rattle.matcher.specs.Progress.{pattern_of, text_in, pattern_in, HeadOf, GoodPattern, Ready, Stepped, Advanced};
+ghost use Rattle.matcher.specs.Asked.{text_in, pattern_in};
+ghost use Rattle.matcher.specs.Progress.{Stepped, Advanced};
+ghost use Rattle.matcher.specs.Ready.{pattern_of, HeadOf, GoodPattern, Ready};
 
 use bits::{ByteNo, Place, load};
 use matcher::compare::Known;

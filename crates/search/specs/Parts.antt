@@ -10,7 +10,7 @@ use Rattle.rules.specs.Occurrence.{places}
 use Rattle.rules.specs.Scratch.{scratch_cells}
 use Rattle.rules.specs.Machine.{Ending, done, spent, full, run}
 use Rattle.search.specs.Verdict.{Verdict, refused, accepted, rows, judge, number_of_refusal, ending_of, Carries}
-use Rattle.matcher.specs.Progress.{GoodPattern}
+use Rattle.matcher.specs.Ready.{GoodPattern}
 
 -- how a run stopped, by whether a place found no cell, the mark left and the number of places
 abbrev pub ending_at : Bool → ℕ → ℕ → Ending

@@ -1,7 +1,8 @@
 // All steps of a call: the loop over the methods' steps.
 ghost use Rattle.std.specs.Prelude.{◌^◌, ◌≤◌};
 ghost use Rattle.rules.specs.Occurrence.{places};
-ghost use Rattle.matcher.specs.Progress.{text_of, pattern_of, text_in, pattern_in, HeadOf, Ready};
+ghost use Rattle.matcher.specs.Asked.{text_in, pattern_in};
+ghost use Rattle.matcher.specs.Ready.{text_of, pattern_of, HeadOf, Ready};
 ghost use Rattle.search.specs.Parts.{Ran, Allowed, Leaves, Tells};
 
 use crate::{Answer, Mark, Method, Stop};

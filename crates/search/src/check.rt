@@ -1,7 +1,7 @@
 // Refusals 1, 2, 3, 4, 17, 5, 6 and 7 of a search call, in that order.
 ghost use Rattle.std.specs.Prelude.{◌≡◌, ◌+◌, ◌-◌, ◌^◌, ◌≤◌};
 ghost use Rattle.rules.specs.Step.{unfit};
-ghost use Rattle.matcher.specs.Progress.{text_of, pattern_of};
+ghost use Rattle.matcher.specs.Ready.{text_of, pattern_of};
 ghost use Rattle.search.specs.Parts.{check_of, check_verdict};
 
 use crate::{Method, Refusal};

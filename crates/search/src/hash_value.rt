@@ -2,7 +2,7 @@
 ghost use Rattle.std.specs.Prelude.{◌≡◌};
 ghost use Rattle.search.specs.Verdict.{hash_verdict};
 ghost use Rattle.search.specs.HashAnswers.{hash_answer};
-ghost use Rattle.matcher.specs.Progress.{pattern_of};
+ghost use Rattle.matcher.specs.Ready.{pattern_of};
 
 use crate::Refusal;
 use hash_tables::value;

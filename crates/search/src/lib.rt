@@ -10,7 +10,9 @@ pub mod scratch_cells;
 ghost use Rattle.std.specs.Prelude.{◌≡◌, ◌≤◌, ◌<◌, length};
 ghost use Rattle.rules.specs.Occurrence.{places};
 ghost use Rattle.search.specs.Verdict.{number_of_refusal, Searched};
-ghost use Rattle.matcher.specs.Progress.{text_of, pattern_of, text_in, pattern_in, HeadOf, Ready, Stepped};
+ghost use Rattle.matcher.specs.Asked.{text_in, pattern_in};
+ghost use Rattle.matcher.specs.Progress.{Stepped};
+ghost use Rattle.matcher.specs.Ready.{text_of, pattern_of, HeadOf, Ready};
 
 use bits::Place;
 use check::Checked;

@@ -15,7 +15,7 @@ use Rattle.rules.specs.declared.Method.TheVariants.{Plain}
 use Rattle.search.specs.Verdict.{Row, Verdict, refused, accepted, judge, AllFail, text_too_long, text_bytes_missing}
 use Rattle.search.proofs.Verdict.{past, judge_accepted}
 use Rattle.search.proofs.Accepting.{neither}
-use Rattle.matcher.specs.Progress.{GoodPattern}
+use Rattle.matcher.specs.Ready.{GoodPattern}
 use Rattle.set_rules.specs.PatternSet.{PatternSet, start_of, pattern_from, pattern_at, set_places}
 use Rattle.set_rules.specs.Verdict.{set_size, pattern_rows, rows_from, mark_beyond, rows}
 use Rattle.set.specs.Parts.{Allowed}

@@ -24,7 +24,8 @@ use Rattle.rules.specs.Pattern.{Pattern, agrees}
 use Rattle.rules.specs.Occurrence.{matches, occurs}
 use Rattle.rules.proofs.Ranges.{and_left, and_right, and_both, implies_to, to_implies, not_true_false, every_at, to_every, among_append, among_none, among_length}
 use Rattle.rules.proofs.Occurrence.{to_matches, occurs_iff, occurs_inside, none_from_places}
-use Rattle.matcher.specs.Progress.{text_of, pattern_of, HeadOf, GoodPattern, Writing}
+use Rattle.matcher.specs.Progress.{Writing}
+use Rattle.matcher.specs.Ready.{text_of, pattern_of, HeadOf, GoodPattern}
 use Rattle.matcher.proofs.SingleBits.{trailing_below, trailing_at, trailing_lt}
 use Rattle.matcher.proofs.Writing.{writing_none, writing_more, sets_append}
 use Rattle.set_rules.specs.PatternSet.{PatternSet, start_of, pattern_at}

@@ -1,6 +1,6 @@
 // All steps of a call.
 ghost use Rattle.std.specs.Prelude.{◌≡◌, ◌+◌, ◌/◌, ◌≤◌, min, length};
-ghost use Rattle.matcher.specs.Progress.{text_of};
+ghost use Rattle.matcher.specs.Ready.{text_of};
 ghost use Rattle.set_rules.specs.PatternSet.{set_places};
 ghost use Rattle.set_tables.specs.Fronts.{Tables, Kept};
 ghost use Rattle.set_tables.specs.Parts.{set_of};

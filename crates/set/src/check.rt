@@ -1,6 +1,6 @@
 // Refusals 1, 2, 18, then 3, 4 and 17 for each pattern in turn, and 6.
 ghost use Rattle.std.specs.Prelude.{◌≡◌, cond, ◌+◌, ◌-◌, ◌^◌, ◌≤◌, ◌<◌, max, ltb, length, get_or};
-ghost use Rattle.matcher.specs.Progress.{text_of};
+ghost use Rattle.matcher.specs.Ready.{text_of};
 ghost use Rattle.search.specs.Verdict.{judge};
 ghost use Rattle.set_rules.specs.PatternSet.{pattern_from, largest};
 ghost use Rattle.set_rules.specs.Verdict.{pattern_rows, rows};

@@ -12,7 +12,7 @@ mod check;
 mod step;
 
 ghost use Rattle.std.specs.Prelude.{◌≡◌};
-ghost use Rattle.matcher.specs.Progress.{text_of};
+ghost use Rattle.matcher.specs.Ready.{text_of};
 ghost use Rattle.set_tables.specs.Parts.{set_of};
 ghost use Rattle.set.specs.Promise.{number_of_refusal, Searched};
 

@@ -2,7 +2,8 @@
 ghost use Rattle.std.specs.Prelude.{◌≡◌, true, ◌+◌, ◌*◌, ◌^◌, ◌≤◌, ◌<◌, length, take};
 ghost use Rattle.bits.specs.Packed.{bits_at};
 ghost use Rattle.rules.specs.Occurrence.{occurs};
-ghost use Rattle.matcher.specs.Progress.{text_of, Writing};
+ghost use Rattle.matcher.specs.Progress.{Writing};
+ghost use Rattle.matcher.specs.Ready.{text_of};
 ghost use Rattle.set_rules.specs.PatternSet.{pattern_at};
 ghost use Rattle.set_rules.specs.Hits.{standing};
 ghost use Rattle.set_tables.specs.Fronts.{begins, Flags, Kept};

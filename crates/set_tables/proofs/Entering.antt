@@ -26,7 +26,7 @@ use Rattle.matcher.specs.Lined.{Only}
 use Rattle.matcher.proofs.Words.{head_is}
 use Rattle.matcher.proofs.SingleBits.{weight_power}
 use Rattle.matcher.proofs.LinedCells.{only_none, only_set}
-use Rattle.matcher.specs.Progress.{HeadOf}
+use Rattle.matcher.specs.Ready.{HeadOf}
 use Rattle.set_rules.specs.PatternSet.{PatternSet, start_of, pattern_at}
 use Rattle.set_tables.specs.Fronts.{begins, Flags, Halves, Tables, front, Kept}
 use Rattle.set_tables.specs.Parts.{GoodSet, HalfEntered, Entered, RowPaired, PairedUp}

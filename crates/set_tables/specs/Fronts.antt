@@ -4,7 +4,7 @@ use Rattle.std.specs.Int.Bits.{bit_and}
 use Rattle.bits.specs.Packed.{weight, bit_of}
 use Rattle.rules.specs.Ranges.{implies, every}
 use Rattle.rules.specs.Pattern.{Pattern, agrees}
-use Rattle.matcher.specs.Progress.{HeadOf}
+use Rattle.matcher.specs.Ready.{HeadOf}
 use Rattle.set_rules.specs.PatternSet.{PatternSet, start_of, pattern_at}
 
 -- the pattern's bits from bit `from` on agree with the k bits of x, as far as the pattern goes

@@ -5,7 +5,7 @@ use Rattle.bits.specs.Packed.{weight}
 use Rattle.rules.specs.declared.Method.TheVariants.{Plain}
 use Rattle.matcher.specs.Words.{same_where}
 use Rattle.matcher.specs.Lined.{Only}
-use Rattle.matcher.specs.Progress.{GoodPattern}
+use Rattle.matcher.specs.Ready.{GoodPattern}
 use Rattle.set_rules.specs.PatternSet.{PatternSet, pattern_at}
 use Rattle.set_tables.specs.Fronts.{front}
 

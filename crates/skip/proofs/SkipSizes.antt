@@ -10,7 +10,7 @@ use Rattle.bits.specs.Packed.{Packed}
 use Rattle.rules.specs.declared.Method.TheVariants.{Skip}
 use Rattle.rules.specs.Pattern.{Pattern}
 use Rattle.rules.specs.Occurrence.{places}
-use Rattle.matcher.specs.Progress.{Ready}
+use Rattle.matcher.specs.Ready.{Ready}
 
 -- b is the last whole byte inside the place p, of `len` bytes of text
 pub record Sizes (p n m len b : ℕ) : Type 0 where

@@ -9,7 +9,9 @@
 ghost use Rattle.std.specs.Prelude.{◌≡◌, ◌+◌, ◌-◌, ◌*◌, ◌%◌, ◌≤◌, ◌<◌, length};
 ghost use Rattle.rules.specs.Occurrence.{places};
 ghost use Rattle.matcher.specs.Tables.{chained, ChainTables, WordTables};
-ghost use Rattle.matcher.specs.Progress.{text_in, pattern_in, HeadOf, Ready, Stepped, Advanced};
+ghost use Rattle.matcher.specs.Asked.{text_in, pattern_in};
+ghost use Rattle.matcher.specs.Progress.{Stepped, Advanced};
+ghost use Rattle.matcher.specs.Ready.{HeadOf, Ready};
 
 use bits::{ByteNo, Place};
 use matcher::compare::Known;

@@ -14,7 +14,7 @@ ghost use Rattle.rules.specs.Wild.{AllFixed};
 ghost use Rattle.skip_tables.specs.SkipChains.{Filled, last_shown, Flags, Flagging, NextBlock, Walking};
 ghost use Rattle.rules.specs.Scratch.{scratch_cells};
 ghost use Rattle.matcher.specs.Tables.{chained, last_below, in_chain, ChainTables, WordTables, SkipTables, Prepared};
-ghost use Rattle.matcher.specs.Progress.{pattern_of, GoodPattern};
+ghost use Rattle.matcher.specs.Ready.{pattern_of, GoodPattern};
 
 use bits::{ByteNo, Place, load};
 use matcher::wild;

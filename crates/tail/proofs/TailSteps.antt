@@ -29,7 +29,7 @@ use Rattle.rules.proofs.Ranges.{not_true_false, every_same, greatest_same}
 use Rattle.rules.proofs.Pattern.{agrees_one, agrees_zero}
 use Rattle.rules.proofs.Occurrence.{matches_at, to_matches}
 use Rattle.matcher.specs.Tables.{Prepared}
-use Rattle.matcher.specs.Progress.{GoodPattern, Ready}
+use Rattle.matcher.specs.Ready.{GoodPattern, Ready}
 use Rattle.tail.specs.declared.Masks.{Masks}
 use Rattle.tail.specs.Lengths.{ends_in, MasksOf, Longest, Moves, Made}
 use Rattle.tail.proofs.TailMasks.{xor_less, same_where, agrees_masked, masks_of_tables}

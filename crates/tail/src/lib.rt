@@ -23,7 +23,9 @@ ghost use Rattle.rules.specs.Occurrence.{places};
 ghost use Rattle.rules.specs.Scratch.{scratch_cells};
 ghost use Rattle.matcher.specs.Tables.{Prepared};
 ghost use Rattle.tail.specs.Lengths.{OneStep, Longest, spread_of, every_bit, FirstRun, Four, Made, Keeps, Top, Differs, Settled};
-ghost use Rattle.matcher.specs.Progress.{pattern_of, text_in, pattern_in, HeadOf, GoodPattern, Ready, Stepped, Advanced};
+ghost use Rattle.matcher.specs.Asked.{text_in, pattern_in};
+ghost use Rattle.matcher.specs.Progress.{Stepped, Advanced};
+ghost use Rattle.matcher.specs.Ready.{pattern_of, HeadOf, GoodPattern, Ready};
 
 use bits::{ByteNo, Place, load};
 use matcher::compare::Known;

@@ -21,7 +21,8 @@ use Rattle.rules.specs.Occurrence.{places, matches, occurs, occurrences}
 use Rattle.rules.specs.Wide.{wide_finds}
 use Rattle.rules.specs.Step.{finds, next}
 use Rattle.matcher.specs.Tables.{WideTables}
-use Rattle.matcher.specs.Progress.{text_of, Writing, Stepped}
+use Rattle.matcher.specs.Progress.{Writing, Stepped}
+use Rattle.matcher.specs.Ready.{text_of}
 use Rattle.wide.specs.Flags.{stands_after, Scanned, Stand, Flagged, stop}
 use Rattle.rules.proofs.Ranges.{and_both, not_true_false, among_same}
 use Rattle.rules.proofs.Occurrence.{occurs_inside, none_from_places, occurrences_none, occurrences_append, occurrences_one, occurrences_further, occurrences_to}

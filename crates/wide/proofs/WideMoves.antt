@@ -21,7 +21,7 @@ use Rattle.rules.specs.Occurrence.{places}
 use Rattle.rules.specs.Wide.{window, last_index, beyond, wide_next}
 use Rattle.rules.specs.Step.{ahead, next}
 use Rattle.matcher.specs.Tables.{WideTables}
-use Rattle.matcher.specs.Progress.{text_of}
+use Rattle.matcher.specs.Ready.{text_of}
 use Rattle.wide.specs.Flags.{Move, Marked}
 use Rattle.rules.proofs.Ranges.{and_left, and_right, Greatest, IsGreatest, greatest_is}
 use Rattle.matcher.proofs.SingleBits.{trailing_below, trailing_at}

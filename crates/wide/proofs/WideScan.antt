@@ -22,7 +22,7 @@ use Rattle.rules.specs.Pattern.{Pattern}
 use Rattle.rules.specs.Occurrence.{places}
 use Rattle.rules.specs.Wide.{window, stands}
 use Rattle.matcher.specs.Tables.{passes}
-use Rattle.matcher.specs.Progress.{text_of}
+use Rattle.matcher.specs.Ready.{text_of}
 use Rattle.wide.specs.Flags.{StartsByte, within, second, applied, rounds, Applies, stands_after, Scanned}
 use Rattle.rules.proofs.Ranges.{and_left, and_right, and_both, to_implies, implies_to, not_true_false, every_at, to_every}
 use Rattle.rules.proofs.Wide.{stands_at}

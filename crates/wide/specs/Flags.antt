@@ -11,7 +11,7 @@ use Rattle.rules.specs.Occurrence.{places, matches}
 use Rattle.rules.specs.Wide.{window, last_index, beyond}
 use Rattle.rules.specs.Step.{next}
 use Rattle.matcher.specs.Tables.{passes, WideTables}
-use Rattle.matcher.specs.Progress.{text_of}
+use Rattle.matcher.specs.Ready.{text_of}
 
 -- window bit q is the first of a byte
 abbrev pub StartsByte : ℕ → Type 0

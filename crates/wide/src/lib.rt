@@ -12,7 +12,9 @@ ghost use Rattle.rules.specs.Step.{next};
 ghost use Rattle.rules.specs.Scratch.{scratch_cells};
 ghost use Rattle.matcher.specs.Tables.{Prepared};
 ghost use Rattle.wide.specs.Flags.{StartsByte, Enters, Entered, Moves, within, second, Applies, Flagged, Scanned, Marked};
-ghost use Rattle.matcher.specs.Progress.{text_of, pattern_of, text_in, pattern_in, HeadOf, GoodPattern, Ready, Stepped, Advanced};
+ghost use Rattle.matcher.specs.Asked.{text_in, pattern_in};
+ghost use Rattle.matcher.specs.Progress.{Stepped, Advanced};
+ghost use Rattle.matcher.specs.Ready.{text_of, pattern_of, HeadOf, GoodPattern, Ready};
 
 use bits::{Place, bit, load};
 use matcher::compare::Known;

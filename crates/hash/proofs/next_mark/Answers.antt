@@ -2,7 +2,7 @@
 -- Assumes nothing.
 use mathlib.Core.Path.{sym, ◌∙◌}
 use native.Mathlib.Omega.{arith}
-use Rattle.matcher.specs.Progress.{text_in, pattern_in}
+use Rattle.matcher.specs.Asked.{text_in, pattern_in}
 use Rattle.hash.proofs.HashSteps.{CellAt, cell_at, eight_inside}
 use Rattle.hash.proofs.next_mark.Goals as goal
 use Rattle.hash.proofs.next_mark.Goals.{After-byte_inside-v}
@@ -10,15 +10,15 @@ use Rattle.hash.proofs.next_mark.Goals.{After-byte_inside-v}
 -- what the cell holds
 cell : (c : After-byte_inside-v)
     → let a = c.args in
-    CellAt (text_in a.text.now a.known) (pattern_in a.pattern.now a.fixed.now a.known) a.cells.now a.s.0 c.byte_inside-v.result
+    CellAt (text_in a.search.now.query) (pattern_in a.search.now.query) a.cells.now a.s.0 c.byte_inside-v.result
 cell c =
     let a = c.args in
-    cell_at (text_in a.text.now a.known) (pattern_in a.pattern.now a.fixed.now a.known) a.cells.now c.requires.ready a.s.0 _ c.byte_inside-v.ensures
+    cell_at (text_in a.search.now.query) (pattern_in a.search.now.query) a.search.now.cells.now a.search.now.ready a.s.0 _ c.byte_inside-v.ensures
 
 pub byte_inside-v-requires : goal.byte_inside-v-requires
 byte_inside-v-requires c =
     let a = c.args in
-    eight_inside (text_in a.text.now a.known) (pattern_in a.pattern.now a.fixed.now a.known) a.cells.now c.requires.ready a.s.0 c.requires.s_bound
+    eight_inside (text_in a.search.now.query) (pattern_in a.search.now.query) a.search.now.cells.now a.search.now.ready a.s.0 c.requires.s_bound
 
 pub offset_bounds-cells-v : goal.offset_bounds-cells-v
 offset_bounds-cells-v c = omega (arith, (cell (goal.at.offset_bounds-cells-v c).After-byte_inside-v).small)

@@ -5,7 +5,7 @@ use lib.ListN.{length, set, length-set}
 use lib.Pow.{shr_le}
 use Rattle.bits.proofs.Run.{bits_lt}
 use Rattle.hash_tables.specs.HashMoves.{Entered}
-use Rattle.matcher.specs.Progress.{pattern_of}
+use Rattle.matcher.specs.Asked.{lent}
 use Rattle.hash_tables.proofs.HashValues.{long_enough}
 use Rattle.hash_tables.proofs.HashTables.{ends_none, ends_small, ends_more, ends_made}
 use Rattle.hash_tables.proofs.prepare_ends.Goals as goal
@@ -15,8 +15,8 @@ use Rattle.hash_tables.proofs.prepare_ends.Goals.{After-double-2, At-loop-k}
 room : (c : At-loop-k) → (c.loop-k.size ≤ 128) × (256 ≤ length c.loop-k.cells)
 room c =
     let a = c.args in
-    let size : length (set a.cells.now 0 a.m) ≡ length a.cells.now = length-set a.cells.now 0 a.m in (
-      ends_small (pattern_of a.pattern.now a.fixed.now a.m) c.requires.all_fixed (long_enough _ c.requires.good_pattern) _ (omega arith) c.loop-k.cells c.loop-k.size c.loop-k.k c.loop-k.invariant,
+    let size : length (set a.cells.now 0 a.pattern.now.m) ≡ length a.cells.now = length-set a.cells.now 0 a.pattern.now.m in (
+      ends_small (lent a.pattern.now) c.requires.all_fixed (long_enough _ c.requires.good_pattern) _ (omega arith) c.loop-k.cells c.loop-k.size c.loop-k.k c.loop-k.invariant,
       omega (arith, c.loop-k.invariant.same_size),
     )
 
@@ -26,24 +26,24 @@ value_lt : (c : At-loop-k)
 value_lt c =
     let b = c.byte_at-first in
     let k = c.loop-k.k in
-    let byte : b.result < 256 = rw b.ensures (bits_lt c.args.pattern.now 0 8) in
+    let byte : b.result < 256 = rw b.ensures (bits_lt c.args.pattern.now.bytes.now 0 8) in
     omega (arith, shr_le b.result (8 - k))
 
 -- what the last copy leaves
 made : (c : After-double-2)
     → let a = c.args in
-    Entered (pattern_of a.pattern.now a.fixed.now a.m) a.cells.now c.double-2.new.cells (a.m - 8)
+    Entered (lent a.pattern.now) a.cells.now c.double-2.new.cells (a.pattern.now.m - 8)
 made c =
     let a = c.args in
     let l = c.loop-k in
     rw c.double-2.ensures
-    (ends_made (pattern_of a.pattern.now a.fixed.now a.m) c.requires.all_fixed (long_enough _ c.requires.good_pattern) a.cells.now c.requires.in_bounds l.cells l.size l.k l.invariant
+    (ends_made (lent a.pattern.now) c.requires.all_fixed (long_enough _ c.requires.good_pattern) a.cells.now c.requires.in_bounds l.cells l.size l.k l.invariant
     (omega (arith, l.invariant.high)))
 
 pub loop-k-init : goal.loop-k-init
 loop-k-init c =
     let a = c.args in
-    ends_none (pattern_of a.pattern.now a.fixed.now a.m) a.cells.now c.requires.in_bounds
+    ends_none (lent a.pattern.now) a.cells.now c.requires.in_bounds
 
 pub double-requires : goal.double-requires
 double-requires c = room (goal.at.double-requires c).At-loop-k
@@ -71,9 +71,9 @@ loop-k-preserved c =
     let a = c.args in
     let l = c.loop-k in
     let b = c.byte_at-first in
-    let size : length (set a.cells.now 0 a.m) ≡ length a.cells.now = length-set a.cells.now 0 a.m in
+    let size : length (set a.cells.now 0 a.pattern.now.m) ≡ length a.cells.now = length-set a.cells.now 0 a.pattern.now.m in
     rw c.double.ensures
-    (ends_more (pattern_of a.pattern.now a.fixed.now a.m) c.requires.all_fixed (long_enough _ c.requires.good_pattern) _ (omega arith) l.cells l.size l.k l.invariant _
+    (ends_more (lent a.pattern.now) c.requires.all_fixed (long_enough _ c.requires.good_pattern) _ (omega arith) l.cells l.size l.k l.invariant _
     (ap (λ (x : ℕ). x / 2 ^ (8 - l.k)) b.ensures) (omega arith))
 
 pub double-requires-2 : goal.double-requires-2

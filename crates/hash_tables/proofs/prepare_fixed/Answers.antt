@@ -3,7 +3,7 @@ use Prim.Native.Nat.{◌-◌, ◌≤◌}
 use native.Mathlib.Omega.{arith}
 use lib.ListN.{length}
 use Rattle.hash_tables.specs.HashMoves.{Entered}
-use Rattle.matcher.specs.Progress.{pattern_of}
+use Rattle.matcher.specs.Asked.{lent}
 use Rattle.hash_tables.proofs.HashValues.{long_enough}
 use Rattle.hash_tables.proofs.HashTables.{entered_here, entered_then}
 use Rattle.hash_tables.proofs.prepare_fixed.Goals as goal
@@ -17,7 +17,7 @@ room c =
 -- what the last call leaves
 all : (c : After-enter-2)
     → let a = c.args in
-    Entered (pattern_of a.pattern.now a.fixed.now a.m) a.cells.now c.enter-2.new.cells 0
+    Entered (lent a.pattern.now) a.cells.now c.enter-2.new.cells 0
 all c =
     let l = c.loop-d in
     let none : l.d - l.d ≡ 0 = omega arith in

@@ -2,11 +2,11 @@
 -- Assumes nothing.
 use Prim.Native.Nat.{◌+◌, ◌≤◌}
 use Rattle.hash_tables.specs.HashMoves.{Entered}
-use Rattle.matcher.specs.Progress.{pattern_of}
+use Rattle.matcher.specs.Asked.{lent}
 use Rattle.hash_tables.proofs.prepare_fixed.Given as goal
 
 abbrev pub invariant-loop-d : goal.invariant-loop-d
-invariant-loop-d l = (l.d + 8 ≤ l.m) × Entered (pattern_of l.pattern l.fixed l.m) l.initial.cells l.cells l.d
+invariant-loop-d l = (l.d + 8 ≤ l.pattern.m) × Entered (lent l.pattern) l.initial.cells l.cells l.d
 
 abbrev pub decreases-loop-d : goal.decreases-loop-d
 decreases-loop-d l = l.d

@@ -2,7 +2,7 @@ use mathlib.Core.Logic.{◌⊎◌, inl, inr}
 use Prim.Native.Nat.{◌≤◌}
 use native.Mathlib.Omega.{arith}
 use Rattle.rules.specs.declared.Method.TheVariants.{Hash}
-use Rattle.matcher.specs.Progress.{pattern_of}
+use Rattle.matcher.specs.Asked.{lent}
 use Rattle.matcher.specs.Tables.{Prepared}
 use Rattle.matcher.specs.Lined.{Only}
 use Rattle.hash_tables.specs.HashWords.{Settled, AllEntered}
@@ -18,7 +18,7 @@ only c = only_then (only_wider c.unset_all.ensures.only (omega arith) (omega ari
 -- the next words change neither a row nor what tells of its cells
 settled_now : (c : After-line_up)
     → let a = c.args in
-    Settled (pattern_of a.pattern.now a.fixed.now a.m) c.loop-d.d c.line_up.new.cells
+    Settled (lent a.pattern.now) c.loop-d.d c.line_up.new.cells
 settled_now c =
     let l = c.loop-d in
     settled_same _ l.d l.cells _ l.invariant.0 c.line_up.ensures.only
@@ -26,8 +26,8 @@ settled_now c =
 -- the table is made
 all : (c : At-loop-d)
     → let a = c.args in
-    (a.m ≤ c.loop-d.d) ⊎ AllEntered c.loop-d.cells
-    → Prepared Hash (pattern_of a.pattern.now a.fixed.now a.m) a.cells.now c.loop-d.cells
+    (a.pattern.now.m ≤ c.loop-d.d) ⊎ AllEntered c.loop-d.cells
+    → Prepared Hash (lent a.pattern.now) a.cells.now c.loop-d.cells
 all c end =
     settled_all _ c.loop-d.d _ _ c.requires.good_pattern.some_bits c.loop-d.invariant.0 end (only c)
 

@@ -2,13 +2,13 @@
 -- Assumes nothing.
 use mathlib.Core.Path.{◌≡◌}
 use Prim.Native.Nat.{◌-◌}
-use Rattle.matcher.specs.Progress.{pattern_of}
+use Rattle.matcher.specs.Asked.{lent}
 use Rattle.matcher.specs.Lined.{Only}
 use Rattle.hash_tables.specs.HashWords.{Settled, AllEntered}
 use Rattle.hash_tables.proofs.prepare_wild.Given as goal
 
 abbrev pub invariant-loop-d : goal.invariant-loop-d
-invariant-loop-d l = Settled (pattern_of l.pattern l.fixed l.m) l.d l.cells × (l.unset ≡ 0 → AllEntered l.cells) × Only 0 358 l.initial.cells l.cells
+invariant-loop-d l = Settled (lent l.pattern) l.d l.cells × (l.unset ≡ 0 → AllEntered l.cells) × Only 0 358 l.initial.cells l.cells
 
 abbrev pub decreases-loop-d : goal.decreases-loop-d
-decreases-loop-d l = l.m - l.d
+decreases-loop-d l = l.pattern.m - l.d

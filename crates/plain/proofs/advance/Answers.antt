@@ -8,7 +8,8 @@ use lib.ListN.{length}
 use Rattle.rules.specs.declared.Method.TheVariants.{Plain}
 use Rattle.rules.specs.Occurrence.{places, matches}
 use Rattle.matcher.specs.Tables.{row_chunks}
-use Rattle.matcher.specs.Progress.{text_in, pattern_in, Stepped, Advanced}
+use Rattle.matcher.specs.Asked.{text_in, pattern_in}
+use Rattle.matcher.specs.Progress.{Stepped, Advanced}
 use Rattle.matcher.proofs.Writing.{writing_length}
 use Rattle.matcher.proofs.Advancing.{advanced_none}
 use Rattle.plain.specs.RowCells.{cell_fits}

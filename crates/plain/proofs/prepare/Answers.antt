@@ -3,7 +3,7 @@ use native.Mathlib.Omega.{arith}
 use mathlib.Core.Path.{◌≡◌, ap, ◌∙◌}
 use Rattle.bits.specs.Packed.{bits_at}
 use Rattle.matcher.specs.Tables.{row_chunks}
-use Rattle.matcher.specs.Progress.{pattern_of}
+use Rattle.matcher.specs.Ready.{pattern_of}
 use Rattle.plain.proofs.RowsMade.{made_none, mask_holds, row_holds, made_more, made_all}
 use Rattle.plain.proofs.prepare.Goals as goal
 

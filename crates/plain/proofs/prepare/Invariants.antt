@@ -1,7 +1,7 @@
 -- `plain::prepare` meets its contract. The loop's invariant: the cells before 16 k are made.
 -- Assumes nothing.
 use Prim.Native.Nat.{◌-◌, ◌≤◌}
-use Rattle.matcher.specs.Progress.{pattern_of}
+use Rattle.matcher.specs.Ready.{pattern_of}
 use Rattle.plain.proofs.RowsMade.{Made}
 use Rattle.plain.proofs.prepare.Given as goal
 

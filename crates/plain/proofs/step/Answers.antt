@@ -1,7 +1,7 @@
 -- `plain::step` meets its contract: the row at the mark fits just if the pattern stands there.
 -- Assumes nothing.
 use native.Mathlib.Omega.{arith}
-use Rattle.matcher.specs.Progress.{text_in, pattern_in}
+use Rattle.matcher.specs.Asked.{text_in, pattern_in}
 use Rattle.plain.proofs.RowCells.{room_long}
 use Rattle.plain.proofs.PlainSteps.{step_none, step_one, step_full}
 use Rattle.plain.proofs.step.Goals as goal

@@ -4,7 +4,7 @@ use mathlib.Core.Path.{◌≡◌, refl, sym, ◌∙◌, ap}
 use native.Mathlib.Omega.{arith}
 use Rattle.search.specs.Verdict.{AllFail, refused, accepted, judge}
 use Rattle.search.proofs.Verdict.{judge_accepted, accepted_judge}
-use Rattle.matcher.specs.Progress.{text_of}
+use Rattle.matcher.specs.Ready.{text_of}
 use Rattle.set.specs.declared.check.Checked.{Checked}
 use Rattle.set.specs.declared.check.Checked.TheVariants.{Passed, Refused}
 use Rattle.set.specs.declared.Refusal.{Refusal}

@@ -5,7 +5,8 @@ use Prim.Native.Nat.{◌+◌, ◌-◌, ◌/◌, ◌%◌}
 use mathlib.Core.Path.{◌≡◌}
 use mathlib.Core.Bool.{false}
 use Rattle.rules.specs.declared.Method.TheVariants.{Skip}
-use Rattle.matcher.specs.Progress.{text_in, pattern_in, Advanced}
+use Rattle.matcher.specs.Asked.{text_in, pattern_in}
+use Rattle.matcher.specs.Progress.{Advanced}
 use Rattle.skip.proofs.by_chains.Given as goal
 
 abbrev pub invariant-loop-known : goal.invariant-loop-known

@@ -8,7 +8,8 @@ use Rattle.bits.specs.Packed.{Packed}
 use Rattle.rules.specs.declared.Method.TheVariants.{Skip}
 use Rattle.rules.specs.Pattern.{Pattern}
 use Rattle.rules.specs.Occurrence.{places}
-use Rattle.matcher.specs.Progress.{text_in, pattern_in, Stepped, Advanced}
+use Rattle.matcher.specs.Asked.{text_in, pattern_in}
+use Rattle.matcher.specs.Progress.{Stepped, Advanced}
 use Rattle.matcher.proofs.Writing.{writing_length}
 use Rattle.matcher.proofs.Advancing.{counted, advanced_none, advanced_step}
 use Rattle.skip.proofs.SkipPlaces.{byte_from, next_byte, next_fits}

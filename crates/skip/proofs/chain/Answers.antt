@@ -11,7 +11,7 @@ use Rattle.bits.proofs.Run.{bits_lt}
 use Rattle.rules.specs.Occurrence.{occurrences}
 use Rattle.rules.specs.Skip.{last_byte}
 use Rattle.matcher.specs.Tables.{last_below, in_chain, chained}
-use Rattle.matcher.specs.Progress.{text_in, pattern_in}
+use Rattle.matcher.specs.Asked.{text_in, pattern_in}
 use Rattle.matcher.proofs.Writing.{writing_none}
 use Rattle.skip_tables.proofs.SkipChain.{chained_fits}
 use Rattle.skip_tables.proofs.SkipShows.{shown_chain}

@@ -9,7 +9,7 @@ use lib.ListN.{length}
 use Rattle.bits.specs.Packed.{Packed}
 use Rattle.rules.specs.Pattern.{Pattern}
 use Rattle.rules.specs.Occurrence.{occurs}
-use Rattle.matcher.specs.Progress.{text_in, pattern_in}
+use Rattle.matcher.specs.Asked.{text_in, pattern_in}
 use Rattle.rules.proofs.Occurrence.{places_some}
 use Rattle.matcher.proofs.Compared.{compared_place}
 use Rattle.matcher.proofs.Writing.{writing_none, writing_length}

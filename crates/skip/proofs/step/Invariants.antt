@@ -4,7 +4,8 @@ use Prim.Native.Nat.{◌+◌, ◌-◌, ◌*◌, ◌/◌, ◌≤◌}
 use lib.ListN.{get_or}
 use Rattle.rules.specs.Occurrence.{occurrences}
 use Rattle.skip_tables.specs.SkipChains.{Walking}
-use Rattle.matcher.specs.Progress.{text_in, pattern_in, Writing}
+use Rattle.matcher.specs.Asked.{text_in, pattern_in}
+use Rattle.matcher.specs.Progress.{Writing}
 use Rattle.skip.proofs.step.Given as goal
 
 abbrev pub invariant-loop-links : goal.invariant-loop-links

@@ -16,7 +16,8 @@ use Rattle.rules.specs.Occurrence.{occurs, occurrences}
 use Rattle.rules.specs.Skip.{last_byte}
 use Rattle.matcher.specs.Tables.{shows_byte, chained}
 use Rattle.skip_tables.specs.SkipChains.{last_shown, Flagging}
-use Rattle.matcher.specs.Progress.{text_in, pattern_in, Writing}
+use Rattle.matcher.specs.Asked.{text_in, pattern_in}
+use Rattle.matcher.specs.Progress.{Writing}
 use Rattle.rules.proofs.Occurrence.{occurrences_none}
 use Rattle.matcher.proofs.Compared.{compared_place}
 use Rattle.matcher.proofs.Writing.{writing_none, writing_length}

@@ -3,7 +3,7 @@
 -- Assumes nothing.
 use Prim.Native.Nat.{◌+◌, ◌-◌, ◌*◌, ◌^◌, ◌<◌}
 use Rattle.matcher.specs.Tables.{chained}
-use Rattle.matcher.specs.Progress.{text_in, pattern_in}
+use Rattle.matcher.specs.Asked.{text_in, pattern_in}
 use Rattle.skip.proofs.SkipPlaces.{Sweeping}
 use Rattle.skip.proofs.sweep.Given as goal
 

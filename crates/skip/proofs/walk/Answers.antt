@@ -11,7 +11,7 @@ use Rattle.rules.specs.Occurrence.{occurs}
 use Rattle.rules.specs.Skip.{last_byte}
 use Rattle.matcher.specs.Tables.{last_below, in_chain, chained}
 use Rattle.skip_tables.specs.SkipChains.{last_shown}
-use Rattle.matcher.specs.Progress.{text_in, pattern_in}
+use Rattle.matcher.specs.Asked.{text_in, pattern_in}
 use Rattle.matcher.proofs.Compared.{compared_place}
 use Rattle.matcher.proofs.Writing.{writing_none, writing_length}
 use Rattle.skip_tables.proofs.SkipBelow.{below_is}

@@ -5,7 +5,8 @@ use Prim.Native.Nat.{◌+◌, ◌-◌, ◌*◌}
 use Rattle.bits.specs.Packed.{bits_at}
 use Rattle.rules.specs.Occurrence.{occurrences}
 use Rattle.matcher.specs.Tables.{in_chain, chained}
-use Rattle.matcher.specs.Progress.{text_in, pattern_in, Writing}
+use Rattle.matcher.specs.Asked.{text_in, pattern_in}
+use Rattle.matcher.specs.Progress.{Writing}
 use Rattle.skip_tables.proofs.SkipChain.{Headed}
 use Rattle.skip.proofs.walk.Given as goal
 

@@ -5,7 +5,7 @@ use native.Mathlib.Omega.{arith}
 use lib.ListN.{length-set}
 use Rattle.bits.specs.Packed.{bits_at}
 use Rattle.bits.proofs.Run.{bits_lt}
-use Rattle.matcher.specs.Progress.{pattern_of}
+use Rattle.matcher.specs.Ready.{pattern_of}
 use Rattle.matcher.proofs.Shifted.{shifted_none, shifted_first, shifted_more}
 use Rattle.skip_tables.proofs.SkipFilling.{filled_more}
 use Rattle.skip_tables.proofs.enter.Goals as goal

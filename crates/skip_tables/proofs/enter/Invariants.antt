@@ -2,7 +2,7 @@
 -- Assumes nothing.
 use Prim.Native.Nat.{◌+◌, ◌-◌, ◌≤◌}
 use mathlib.Core.Path.{◌≡◌}
-use Rattle.matcher.specs.Progress.{pattern_of}
+use Rattle.matcher.specs.Ready.{pattern_of}
 use Rattle.skip_tables.specs.SkipChains.{Filled}
 use Rattle.matcher.proofs.Shifted.{shifted}
 use Rattle.skip_tables.proofs.enter.Given as goal

@@ -3,7 +3,7 @@ use mathlib.Core.Path.{◌≡◌}
 use native.Mathlib.Omega.{arith}
 use lib.ListN.{get_or}
 use Rattle.matcher.specs.Tables.{last_below, chained, shows_byte, in_chain}
-use Rattle.matcher.specs.Progress.{pattern_of}
+use Rattle.matcher.specs.Ready.{pattern_of}
 use Rattle.skip_tables.proofs.SkipBelow.{below_is, below_again}
 use Rattle.skip_tables.proofs.SkipShows.{shown_chain}
 use Rattle.skip_tables.proofs.SkipChain.{chained_fits, headed_first, headed_within, headed_passes, headed_more, headed_done, link_less, chain_link}

@@ -2,7 +2,7 @@
 -- bound.
 -- Assumes nothing.
 use Rattle.matcher.specs.Tables.{chained, in_chain}
-use Rattle.matcher.specs.Progress.{pattern_of}
+use Rattle.matcher.specs.Ready.{pattern_of}
 use Rattle.skip_tables.proofs.SkipChain.{Headed}
 use Rattle.skip_tables.proofs.first_link.Given as goal
 

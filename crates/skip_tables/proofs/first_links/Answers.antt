@@ -2,7 +2,7 @@
 -- Assumes nothing.
 use native.Mathlib.Omega.{arith}
 use Rattle.matcher.specs.Tables.{shows_byte}
-use Rattle.matcher.specs.Progress.{pattern_of}
+use Rattle.matcher.specs.Ready.{pattern_of}
 use Rattle.skip_tables.proofs.SkipBelow.{below_is}
 use Rattle.skip_tables.proofs.first_links.Goals as goal
 

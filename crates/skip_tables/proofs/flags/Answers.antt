@@ -4,7 +4,7 @@ use Prim.Native.Nat.{ℕ, ◌+◌, ◌-◌, ◌*◌, ◌/◌, ◌%◌}
 use native.Mathlib.Omega.{arith}
 use lib.ListN.{get_or}
 use Rattle.matcher.specs.Lined.{Lined}
-use Rattle.matcher.specs.Progress.{pattern_of}
+use Rattle.matcher.specs.Ready.{pattern_of}
 use Rattle.skip_tables.proofs.SkipWords.{flags_whole, flags_last}
 use Rattle.skip_tables.proofs.flags.Goals as goal
 use Rattle.skip_tables.proofs.flags.Goals.{Start}

@@ -4,7 +4,7 @@ use borrow.Author.Rules.{rules}
 use Prim.Native.Nat.{◌+◌, ◌*◌, ◌^◌, ◌≤◌, ◌<◌}
 use native.Mathlib.Omega.{arith}
 use lib.Count.{count_trailing_zeros}
-use Rattle.matcher.specs.Progress.{pattern_of}
+use Rattle.matcher.specs.Ready.{pattern_of}
 use Rattle.skip_tables.specs.SkipChains.{Flagging}
 use Rattle.skip_tables.proofs.SkipWords.{low_fits, lowest_is, flagging_rest}
 use Rattle.skip_tables.proofs.lowest.Goals as goal

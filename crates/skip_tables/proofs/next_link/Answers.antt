@@ -4,7 +4,7 @@ use Prim.Native.Nat.{◌-◌, ◌≤◌}
 use mathlib.Core.Path.{◌≡◌, ap, ◌∙◌}
 use native.Mathlib.Omega.{arith}
 use Rattle.matcher.specs.Tables.{last_below, shows_byte, in_chain, chained}
-use Rattle.matcher.specs.Progress.{pattern_of}
+use Rattle.matcher.specs.Ready.{pattern_of}
 use Rattle.skip_tables.proofs.SkipBelow.{below_is, below_again}
 use Rattle.skip_tables.proofs.SkipShows.{shown_chain}
 use Rattle.skip_tables.proofs.SkipChain.{chained_fits, chain_link}

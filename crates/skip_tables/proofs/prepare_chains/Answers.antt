@@ -3,7 +3,7 @@ use mathlib.Core.Path.{◌≡◌, refl, ◌∙◌}
 use native.Mathlib.Omega.{arith}
 use lib.ListN.{length, length-set}
 use borrow.Author.Tests.{ltb-false}
-use Rattle.matcher.specs.Progress.{pattern_of}
+use Rattle.matcher.specs.Ready.{pattern_of}
 use Rattle.skip_tables.proofs.SkipChain.{chained_fits}
 use Rattle.skip_tables.proofs.SkipFilling.{same_size, empty_size, empty_rest, empty_kind, filled_none, filled_here, filled_then, filled_all}
 use Rattle.skip_tables.proofs.prepare_chains.Goals as goal

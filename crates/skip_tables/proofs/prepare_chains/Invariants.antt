@@ -1,7 +1,7 @@
 -- `skip_tables::prepare_chains` meets its contract. The loop's invariant: the indices below j are entered.
 -- Assumes nothing.
 use Prim.Native.Nat.{◌-◌, ◌≤◌}
-use Rattle.matcher.specs.Progress.{pattern_of}
+use Rattle.matcher.specs.Ready.{pattern_of}
 use Rattle.skip_tables.specs.SkipChains.{Filled}
 use Rattle.skip_tables.proofs.prepare_chains.Given as goal
 

@@ -2,7 +2,7 @@ use Prim.Native.Nat.{◌+◌}
 use mathlib.Core.Path.{◌≡◌, ◌∙◌}
 use native.Mathlib.Omega.{arith}
 use lib.ListN.{length, length-set}
-use Rattle.matcher.specs.Progress.{pattern_of}
+use Rattle.matcher.specs.Ready.{pattern_of}
 use Rattle.matcher.proofs.LinedCells.{only_none, only_then, only_wider}
 use Rattle.skip_tables.proofs.SkipWords.{words_more, words_all}
 use Rattle.skip_tables.proofs.prepare_words.Goals as goal

@@ -2,7 +2,7 @@
 -- Assumes nothing.
 use Prim.Native.Nat.{◌+◌, ◌-◌, ◌*◌, ◌≤◌}
 use Rattle.matcher.specs.Lined.{Only}
-use Rattle.matcher.specs.Progress.{pattern_of}
+use Rattle.matcher.specs.Ready.{pattern_of}
 use Rattle.skip_tables.proofs.SkipWords.{WordsTo}
 use Rattle.skip_tables.proofs.prepare_words.Given as goal
 

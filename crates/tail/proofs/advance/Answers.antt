@@ -1,7 +1,7 @@
 -- `tail::advance` meets its contract: no step is made where none is left.
 -- Assumes nothing.
 use Rattle.rules.specs.declared.Method.TheVariants.{Tail}
-use Rattle.matcher.specs.Progress.{text_in, pattern_in}
+use Rattle.matcher.specs.Asked.{text_in, pattern_in}
 use Rattle.matcher.proofs.Advancing.{advanced_none}
 use Rattle.tail.proofs.advance.Goals as goal
 

@@ -1,6 +1,6 @@
 -- `tail::prepare` meets its contract.
 -- Assumes nothing.
-use Rattle.matcher.specs.Progress.{pattern_of}
+use Rattle.matcher.specs.Ready.{pattern_of}
 use Rattle.tail.proofs.TailSteps.{short_enough, prepared}
 use Rattle.tail.proofs.prepare.Goals as goal
 

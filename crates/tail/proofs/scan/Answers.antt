@@ -12,7 +12,8 @@ use lib.ListN.{length}
 use Rattle.rules.specs.declared.Method.TheVariants.{Tail}
 use Rattle.rules.specs.Occurrence.{places, matches}
 use Rattle.rules.specs.Step.{next}
-use Rattle.matcher.specs.Progress.{text_in, pattern_in, Stepped, Advanced}
+use Rattle.matcher.specs.Asked.{text_in, pattern_in}
+use Rattle.matcher.specs.Progress.{Stepped, Advanced}
 use Rattle.matcher.proofs.Writing.{writing_length, alone_cut, alone_hit, alone_miss}
 use Rattle.matcher.proofs.Advancing.{counted, advanced_none, advanced_step}
 use Rattle.tail.specs.Lengths.{Longest, Moves}

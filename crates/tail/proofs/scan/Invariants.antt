@@ -8,7 +8,8 @@ use lib.Bits.{bit_and, bit_xor}
 use lib.Dec.{eqb}
 use Rattle.rules.specs.declared.Method.TheVariants.{Tail}
 use Rattle.rules.specs.Occurrence.{places}
-use Rattle.matcher.specs.Progress.{text_in, pattern_in, Stepped, Advanced}
+use Rattle.matcher.specs.Asked.{text_in, pattern_in}
+use Rattle.matcher.specs.Progress.{Stepped, Advanced}
 use Rattle.tail.specs.Lengths.{Moves}
 use Rattle.tail.proofs.scan.Given as goal
 

@@ -10,7 +10,8 @@ use Rattle.rules.proofs.Ranges.{and_left, and_right}
 use Rattle.rules.specs.Occurrence.{places}
 use Rattle.rules.specs.Step.{next}
 use Rattle.wide.specs.Flags.{Flagged}
-use Rattle.matcher.specs.Progress.{text_in, pattern_in, Advanced}
+use Rattle.matcher.specs.Asked.{text_in, pattern_in}
+use Rattle.matcher.specs.Progress.{Advanced}
 use Rattle.matcher.proofs.Writing.{writing_length}
 use Rattle.matcher.proofs.Advancing.{counted, advanced_none, advanced_step}
 use Rattle.wide.proofs.WideFlags.{flagged_of, settling_none, settled}

@@ -3,7 +3,8 @@
 use mathlib.Core.Bool.{false}
 use Prim.Native.Nat.{◌-◌}
 use Rattle.rules.specs.declared.Method.TheVariants.{Wide}
-use Rattle.matcher.specs.Progress.{text_in, pattern_in, Advanced}
+use Rattle.matcher.specs.Asked.{text_in, pattern_in}
+use Rattle.matcher.specs.Progress.{Advanced}
 use Rattle.wide.proofs.advance.Given as goal
 
 abbrev pub invariant-loop-at : goal.invariant-loop-at

@@ -1,7 +1,7 @@
 -- `wide::entering` meets its contract: the pattern's bits, or their opposites, and ones at its wild bits and after it.
 -- Assumes nothing.
 use native.Mathlib.Omega.{arith}
-use Rattle.matcher.specs.Progress.{pattern_of}
+use Rattle.matcher.specs.Ready.{pattern_of}
 use Rattle.wide.proofs.WideBytes.{Free, free_none, free_some, enters_past, enters_zero, enters_one}
 use Rattle.wide.proofs.entering.Goals as goal
 use Rattle.wide.proofs.entering.Goals.{then-m-q-2, else-m-q-2}

@@ -1,7 +1,7 @@
 use mathlib.Core.Path.{◌∙◌}
 use Prim.Native.Nat.{◌+◌, ◌-◌}
 use native.Mathlib.Omega.{arith}
-use Rattle.matcher.specs.Progress.{pattern_of}
+use Rattle.matcher.specs.Ready.{pattern_of}
 use Rattle.wide.proofs.WideTables.{before_none, filled_none}
 use Rattle.wide.proofs.WideBytes.{enters_past, before_moved, filled_more}
 use Rattle.wide.proofs.prepare.Goals as goal

@@ -4,7 +4,7 @@ use native.Mathlib.Omega.{arith}
 use lib.Count.{count_trailing_zeros, trailing_le}
 use lib.ListN.{length}
 use Rattle.rules.specs.Occurrence.{occurrences}
-use Rattle.matcher.specs.Progress.{text_in, pattern_in}
+use Rattle.matcher.specs.Asked.{text_in, pattern_in}
 use Rattle.matcher.proofs.Writing.{writing_length}
 use Rattle.wide.specs.Flags.{stop}
 use Rattle.wide.proofs.WideFlags.{settling_none, settled, lowest, settling_miss, settling_hit, settling_full}

@@ -2,7 +2,7 @@
 -- places from here on.
 -- Assumes nothing.
 use Prim.Native.Nat.{◌-◌}
-use Rattle.matcher.specs.Progress.{text_in, pattern_in}
+use Rattle.matcher.specs.Asked.{text_in, pattern_in}
 use Rattle.wide.specs.Flags.{stop}
 use Rattle.wide.proofs.WideFlags.{Settling}
 use Rattle.wide.proofs.settle.Given as goal

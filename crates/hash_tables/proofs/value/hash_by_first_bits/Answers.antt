@@ -6,7 +6,7 @@ use native.Mathlib.Omega.{arith}
 use lib.Bits.{bit_and, bit_xor}
 use lib.Pow.{pow_pos}
 use Rattle.rules.specs.Hash.{meets}
-use Rattle.matcher.specs.Progress.{pattern_of}
+use Rattle.matcher.specs.Asked.{lent}
 use Rattle.hash_tables.proofs.HashValues.{long_enough, none_more, hash_is, hash_last, one_shl, shown_first}
 use Rattle.hash_tables.proofs.value.hash_by_first_bits.Goals as goal
 use Rattle.hash_tables.proofs.value.hash_by_first_bits.Goals.{In-loop-k}
@@ -15,14 +15,14 @@ use Rattle.hash_tables.proofs.value.hash_by_first_bits.Goals.{In-loop-k}
 tested : (c : In-loop-k)
     → let a = c.args in
     let k = c.loop-k.k in
-    (meets (pattern_of a.pattern.now a.fixed.now a.m) a.value (a.m - k) ≡ true)
+    (meets (lent a.pattern.now) a.value (a.pattern.now.m - k) ≡ true)
     ↔ (bit_and (bit_xor (a.value % ((1 * 2 ^ k) % 2 ^ 32)) (c.byte_at-first.result / 2 ^ (8 - k))) (c.byte_at-care.result / 2 ^ (8 - k)) ≡ 0)
 tested c =
     let a = c.args in
     let k = c.loop-k.k in
     let enough = long_enough _ c.requires.good_pattern in
     let few = c.loop-k.invariant.0 in
-    shown_first (pattern_of a.pattern.now a.fixed.now a.m) a.value k _ _ _ (omega arith) (omega arith)
+    shown_first (lent a.pattern.now) a.value k _ _ _ (omega arith) (omega arith)
     (ap (λ (x : ℕ). a.value % x) (one_shl k (omega arith))) (ap (λ (x : ℕ). x / 2 ^ (8 - k)) c.byte_at-first.ensures)
     (ap (λ (x : ℕ). x / 2 ^ (8 - k)) c.byte_at-care.ensures)
 
@@ -40,20 +40,20 @@ loop-k-preserved c =
     let a = c.args in
     let l = c.loop-k in
     let enough = long_enough _ c.requires.good_pattern in
-    let up : a.m - (l.k - 1) ≡ a.m - l.k + 1 = omega arith in (
+    let up : a.pattern.now.m - (l.k - 1) ≡ a.pattern.now.m - l.k + 1 = omega arith in (
       omega arith,
-      rw up (none_more (pattern_of a.pattern.now a.fixed.now a.m) a.value (a.m - l.k) l.invariant.1 (λ e. c.if-value-k-eq0.false ((tested (goal.at.loop-k-preserved c).In-loop-k).0 e))),
+      rw up (none_more (lent a.pattern.now) a.value (a.pattern.now.m - l.k) l.invariant.1 (λ e. c.if-value-k-eq0.false ((tested (goal.at.loop-k-preserved c).In-loop-k).0 e))),
     )
 
 pub returns-then-value-k-eq0 : goal.returns-then-value-k-eq0
 returns-then-value-k-eq0 c =
     let a = c.args in
     let l = c.loop-k in
-    hash_is (pattern_of a.pattern.now a.fixed.now a.m) a.value (a.m - l.k) l.invariant.1 ((tested (goal.at.returns-then-value-k-eq0 c).In-loop-k).1 c.if-value-k-eq0.true)
+    hash_is (lent a.pattern.now) a.value (a.pattern.now.m - l.k) l.invariant.1 ((tested (goal.at.returns-then-value-k-eq0 c).In-loop-k).1 c.if-value-k-eq0.true)
 
 pub returns : goal.returns
 returns c =
     let a = c.args in
     let l = c.loop-k in
-    let all : a.m - l.k ≡ a.m = omega arith in
-    hash_last (pattern_of a.pattern.now a.fixed.now a.m) a.value a.m refl (rw all at l.invariant.1)
+    let all : a.pattern.now.m - l.k ≡ a.pattern.now.m = omega arith in
+    hash_last (lent a.pattern.now) a.value a.pattern.now.m refl (rw all at l.invariant.1)

@@ -7,7 +7,8 @@ use native.Mathlib.Omega.{arith}
 use lib.Bits.{bit_and, bit_xor}
 use lib.ListN.{set, length}
 use lib.Seq.{lt-length-set}
-use Rattle.matcher.specs.Progress.{pattern_of}
+use Rattle.matcher.specs.Ready.{pattern_of}
+use Rattle.matcher.specs.Asked.{lent}
 use Rattle.matcher.specs.Lined.{Ending, Words, Only}
 use Rattle.matcher.proofs.SingleBits.{all_ones}
 use Rattle.matcher.proofs.LinedCells.{words_one, only_none, only_set, only_then, only_wider}
@@ -29,19 +30,19 @@ first_two pattern fixed cells m d at p f few room ep ef = (
 -- what the words of two bits leave
 then_two : (c : After-pair_up)
     → let a = c.args in
-    Words (pattern_of a.pattern.now a.fixed.now a.m) a.d 2 (a.at + 2) c.pair_up.new.cells × Only a.at (a.at + 22) a.cells.now c.pair_up.new.cells
+    Words (lent a.pattern.now) a.d 2 (a.at + 2) c.pair_up.new.cells × Only a.at (a.at + 22) a.cells.now c.pair_up.new.cells
 unfolding first_cells
 then_two c =
     let a = c.args in
-    let u = first_two a.pattern.now a.fixed.now a.cells.now a.m a.d a.at _ _ c.requires.0 c.requires.1 c.ending-p.ensures c.ending-f.ensures in
+    let u = first_two a.pattern.now.bytes.now a.pattern.now.fixed.now a.cells.now a.pattern.now.m a.d a.at _ _ c.requires.0 c.requires.1 c.ending-p.ensures c.ending-f.ensures in
     let q = c.pair_up.ensures in
     (q.words _ _ u.0, only_then u.1 (only_wider q.only (omega arith) (omega arith)))
 
 -- and those of four
 then_four : (c : After-pair_up-2)
     → let a = c.args in
-    Words (pattern_of a.pattern.now a.fixed.now a.m) a.d 2 (a.at + 2) c.pair_up.new.cells × Only a.at (a.at + 22) a.cells.now c.pair_up.new.cells
-    → Words (pattern_of a.pattern.now a.fixed.now a.m) a.d 4 (a.at + 6) c.pair_up-2.new.cells × Only a.at (a.at + 22) a.cells.now c.pair_up-2.new.cells
+    Words (lent a.pattern.now) a.d 2 (a.at + 2) c.pair_up.new.cells × Only a.at (a.at + 22) a.cells.now c.pair_up.new.cells
+    → Words (lent a.pattern.now) a.d 4 (a.at + 6) c.pair_up-2.new.cells × Only a.at (a.at + 22) a.cells.now c.pair_up-2.new.cells
 then_four c u =
     let q = c.pair_up-2.ensures in
     (q.words _ _ u.0, only_then u.1 (only_wider q.only (omega arith) (omega arith)))
@@ -55,7 +56,7 @@ pub pair_up-requires : goal.pair_up-requires
 unfolding first_cells
 pair_up-requires c =
     let a = c.args in
-    let u = first_two a.pattern.now a.fixed.now a.cells.now a.m a.d a.at _ _ c.requires.0 c.requires.1 c.ending-p.ensures c.ending-f.ensures in
+    let u = first_two a.pattern.now.bytes.now a.pattern.now.fixed.now a.cells.now a.pattern.now.m a.d a.at _ _ c.requires.0 c.requires.1 c.ending-p.ensures c.ending-f.ensures in
     (omega arith, refl, omega arith, omega (arith, u.1.size))
 
 pub pair_up-requires-2 : goal.pair_up-requires-2

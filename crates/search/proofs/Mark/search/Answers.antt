@@ -3,7 +3,7 @@
 use mathlib.Core.Path.{◌≡◌, refl}
 use native.Mathlib.Omega.{arith}
 use Rattle.search.specs.Verdict.{Request, machine}
-use Rattle.matcher.specs.Progress.{text_of, pattern_of}
+use Rattle.matcher.specs.Ready.{text_of, pattern_of}
 use Rattle.search.specs.Parts.{check_of, check_verdict, Allowed}
 use Rattle.search.specs.declared.check.Checked.{Checked}
 use Rattle.search.specs.declared.check.Checked.TheVariants.{Passed}

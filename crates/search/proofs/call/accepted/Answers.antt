@@ -8,7 +8,7 @@ use lib.Dec.{eqb}
 use borrow.Author.Tests.{eq-eqb}
 use Rattle.rules.specs.Occurrence.{places}
 use Rattle.rules.specs.Machine.{stopped}
-use Rattle.matcher.specs.Progress.{text_of, pattern_of}
+use Rattle.matcher.specs.Ready.{text_of, pattern_of}
 use Rattle.search.proofs.Accepting.{few_hits, leaves_none, leaves_run}
 use Rattle.search.proofs.call.accepted.Goals as goal
 

@@ -3,7 +3,8 @@ use mathlib.Core.Bool.{false}
 use Prim.Native.Nat.{◌+◌}
 use native.Mathlib.Omega.{arith}
 use borrow.Author.Rules.{rules}
-use Rattle.matcher.specs.Progress.{text_in, pattern_in, Advanced}
+use Rattle.matcher.specs.Asked.{text_in, pattern_in}
+use Rattle.matcher.specs.Progress.{Advanced}
 use Rattle.matcher.proofs.Writing.{writing_length}
 use Rattle.matcher.proofs.Advancing.{counted, advanced_none, advanced_step, advanced_join}
 use Rattle.search.proofs.Ending.{ran_to_end, ran_to_cut, cell_free, turn}

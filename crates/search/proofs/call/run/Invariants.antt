@@ -1,7 +1,7 @@
 -- `search::call::run` meets its contract: each turn is one step and many after it, by the laws of steps made one after the other.
 -- Assumes nothing.
 use Prim.Native.Nat.{◌-◌}
-use Rattle.matcher.specs.Progress.{text_in, pattern_in}
+use Rattle.matcher.specs.Asked.{text_in, pattern_in}
 use Rattle.search.proofs.Ending.{Turn}
 use Rattle.search.proofs.call.run.Given as goal
 

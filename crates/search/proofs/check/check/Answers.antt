@@ -3,7 +3,7 @@
 use mathlib.Core.Path.{sym, ◌∙◌}
 use mathlib.Core.List.{[]}
 use native.Mathlib.Omega.{arith}
-use Rattle.matcher.specs.Progress.{text_of, pattern_of}
+use Rattle.matcher.specs.Ready.{text_of, pattern_of}
 use Rattle.search.specs.Verdict.{Request}
 use Rattle.search.proofs.Rows.{row_1, row_2, row_3_none, row_3_many, row_4, row_17, row_5, row_6, row_7, no_row}
 use Rattle.search.proofs.check.check.Goals as goal

@@ -4,7 +4,7 @@ use mathlib.Core.Path.{◌≡◌, refl}
 use Prim.Native.Nat.{ℕ, zero, suc, ◌+◌, ◌-◌, ◌^◌}
 use native.Mathlib.Omega.{arith}
 use lib.ListN.{length, get_or, replicate}
-use Rattle.matcher.specs.Progress.{text_of}
+use Rattle.matcher.specs.Ready.{text_of}
 use Rattle.set_rules.specs.PatternSet.{set_places}
 use Rattle.set_tables.specs.Parts.{set_of}
 use Rattle.set_rules.proofs.Hits.{largest_least}

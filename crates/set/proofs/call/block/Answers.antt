@@ -5,7 +5,7 @@ use native.Mathlib.Omega.{arith}
 use lib.Count.{count_trailing_zeros, trailing_le}
 use lib.ListN.{length-replicate}
 use Rattle.bits.specs.Packed.{Packed}
-use Rattle.matcher.specs.Progress.{text_of}
+use Rattle.matcher.specs.Ready.{text_of}
 use Rattle.matcher.proofs.Writing.{writing_length}
 use Rattle.set_rules.specs.PatternSet.{PatternSet}
 use Rattle.set_tables.specs.Parts.{set_of}

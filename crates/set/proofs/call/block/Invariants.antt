@@ -2,7 +2,7 @@
 -- the list.
 -- Assumes nothing.
 use Prim.Native.Nat.{◌+◌, ◌-◌}
-use Rattle.matcher.specs.Progress.{text_of}
+use Rattle.matcher.specs.Ready.{text_of}
 use Rattle.set_tables.specs.Parts.{set_of}
 use Rattle.set.proofs.Blocks.{Turning}
 use Rattle.set.proofs.call.block.Given as goal

@@ -3,7 +3,7 @@ use Prim.Native.Nat.{ℕ, ◌+◌, ◌^◌, ◌≤◌, ◌<◌, min}
 use native.Mathlib.Omega.{arith}
 use lib.ListN.{length, length-replicate}
 use Rattle.bits.specs.Packed.{Packed, bits_at}
-use Rattle.matcher.specs.Progress.{text_of}
+use Rattle.matcher.specs.Ready.{text_of}
 use Rattle.set_rules.specs.PatternSet.{PatternSet}
 use Rattle.set_tables.specs.Parts.{set_of, Looked}
 use Rattle.set_rules.proofs.Hits.{places_least}

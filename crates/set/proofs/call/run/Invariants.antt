@@ -3,7 +3,7 @@
 use mathlib.Core.Path.{◌≡◌}
 use Prim.Native.Nat.{◌-◌, ◌≤◌}
 use lib.ListN.{length}
-use Rattle.matcher.specs.Progress.{text_of}
+use Rattle.matcher.specs.Ready.{text_of}
 use Rattle.set_tables.specs.Parts.{set_of}
 use Rattle.set.specs.Parts.{Listing}
 use Rattle.set.proofs.call.run.Given as goal

@@ -5,7 +5,7 @@ use lib.ListN.{length, get_or}
 use Rattle.bits.specs.Packed.{Packed}
 use Rattle.search.specs.Verdict.{accepted, judge}
 use Rattle.search.proofs.Verdict.{judge_accepted}
-use Rattle.matcher.specs.Progress.{text_of}
+use Rattle.matcher.specs.Ready.{text_of}
 use Rattle.set_rules.specs.PatternSet.{PatternSet, start_of, pattern_at, set_places}
 use Rattle.set_rules.specs.Verdict.{pattern_rows}
 use Rattle.set_tables.specs.Parts.{set_of}

@@ -6,7 +6,7 @@ use lib.ListN.{length}
 use Rattle.bits.specs.Packed.{Packed, bits_at}
 use Rattle.rules.specs.Ranges.{among}
 use Rattle.rules.specs.Occurrence.{occurs}
-use Rattle.matcher.specs.Progress.{text_of}
+use Rattle.matcher.specs.Ready.{text_of}
 use Rattle.matcher.proofs.Writing.{writing_length}
 use Rattle.set_rules.specs.PatternSet.{PatternSet, pattern_at}
 use Rattle.set_tables.specs.Fronts.{begins, Flags}

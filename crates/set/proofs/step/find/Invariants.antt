@@ -3,7 +3,7 @@
 -- Assumes nothing.
 use Prim.Native.Nat.{◌-◌}
 use lib.ListN.{length}
-use Rattle.matcher.specs.Progress.{text_of}
+use Rattle.matcher.specs.Ready.{text_of}
 use Rattle.set_tables.specs.Parts.{set_of}
 use Rattle.set.proofs.Standing.{Finding}
 use Rattle.set.proofs.step.find.Given as goal

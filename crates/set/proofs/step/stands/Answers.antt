@@ -5,7 +5,7 @@ use Prim.Native.Nat.{◌+◌, ◌≤◌}
 use native.Mathlib.Omega.{arith}
 use lib.ListN.{length, get_or}
 use Rattle.rules.specs.declared.Method.TheVariants.{Plain}
-use Rattle.matcher.specs.Progress.{text_of, GoodPattern}
+use Rattle.matcher.specs.Ready.{text_of, GoodPattern}
 use Rattle.set_rules.specs.PatternSet.{PatternSet, start_of, pattern_at}
 use Rattle.set_tables.specs.Parts.{set_of}
 use Rattle.set.proofs.Standing.{start_inside, stands_out, stands_short, head_from, stands_from}

@@ -2,7 +2,7 @@ use mathlib.Core.Path.{ap}
 use mathlib.Core.Bool.{not}
 use native.Mathlib.Omega.{arith}
 use Rattle.matcher.proofs.Chunks.{one_load, none_passed, next_differs, next_agrees, last_decides}
-use Rattle.matcher.proofs.compare.stands_near_end.Goals as goal
+use Rattle.matcher.proofs.query.Query.stands_near_end.Goals as goal
 
 pub returns-then-m-le64 : goal.returns-then-m-le64
 returns-then-m-le64 c =

@@ -1,4 +1,4 @@
--- `matcher::compare::same` meets its contract: the first load rules most places out, and `stands` settles the others.
+-- `matcher::query::Query::same` meets its contract: the first load rules most places out, and `stands` settles the others.
 -- Assumes nothing.
 use mathlib.Core.Path.{◌≡◌, sym, ◌∙◌, ap}
 use mathlib.Core.Bool.{true, false}
@@ -14,8 +14,8 @@ use Rattle.rules.specs.Pattern.{Pattern}
 use Rattle.rules.specs.Occurrence.{matches}
 use Rattle.rules.proofs.Ranges.{every_at, to_every, not_true_false}
 use Rattle.rules.proofs.Occurrence.{matches_at, to_matches}
-use Rattle.matcher.specs.Progress.{text_of, HeadOf}
-use Rattle.matcher.proofs.compare.same.Goals as goal
+use Rattle.matcher.specs.Ready.{text_of, HeadOf}
+use Rattle.matcher.proofs.query.Query.same.Goals as goal
 
 -- what the first load shows of the text
 head-bit : (bytes : List ℕ) (p x j : ℕ) → x / 2 ^ 7 ≡ bits_at bytes p 57 → j < 57 → bit_of 64 x j ≡ bit_at bytes (p + j)
@@ -42,12 +42,12 @@ pub overflow_add-byte : goal.overflow_add-byte
 overflow_add-byte c = omega (arith, c.byte.ensures)
 
 pub head_inside-requires : goal.head_inside-requires
-head_inside-requires c = rw c.byte.ensures at c.if-byte-text.true
+head_inside-requires c = rw c.byte.ensures at c.if-byte-self.true
 
-pub returns-then-head_inside-known : goal.returns-then-head_inside-known
-returns-then-head_inside-known c =
-    head-differs _ _ _ _ _ _ c.requires.head_of c.head_inside.ensures c.if-head_inside-known.true
+pub returns-then-head_inside-self : goal.returns-then-head_inside-self
+returns-then-head_inside-self c =
+    head-differs _ _ _ _ _ _ c.args.self.now.head_of c.head_inside.ensures c.if-head_inside-self.true
 
-pub returns-then-known-le57 : goal.returns-then-known-le57
-returns-then-known-le57 c =
-    head-decides _ _ _ _ _ _ c.requires.head_of c.head_inside.ensures c.if-known-le57.true c.if-head_inside-known.false
+pub returns-then-self-le57 : goal.returns-then-self-le57
+returns-then-self-le57 c =
+    head-decides _ _ _ _ _ _ c.args.self.now.head_of c.head_inside.ensures c.if-self-le57.true c.if-head_inside-self.false

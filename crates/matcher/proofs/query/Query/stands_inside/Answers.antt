@@ -3,7 +3,7 @@ use Prim.Native.Nat.{◌+◌, ◌-◌, ◌*◌}
 use mathlib.Core.Bool.{not}
 use native.Mathlib.Omega.{arith}
 use Rattle.matcher.proofs.Chunks.{none_passed, next_differs, next_agrees, last_decides}
-use Rattle.matcher.proofs.compare.stands_inside.Goals as goal
+use Rattle.matcher.proofs.query.Query.stands_inside.Goals as goal
 
 pub bytes_for-requires : goal.bytes_for-requires
 bytes_for-requires c = omega arith
@@ -79,6 +79,6 @@ returns c =
     let l = c.loop-b in
     let from = c.place-from.result.0 in
     let is = c.place-from.ensures in
-    let back : c.args.m - (c.args.m - from) ≡ from = omega arith in
-    last_decides _ _ _ _ _ (l.b * 8) (c.args.m - from) l.invariant.0 (omega arith) (omega arith) (omega arith)
+    let back : c.args.self.now.pattern.m - (c.args.self.now.pattern.m - from) ≡ from = omega arith in
+    last_decides _ _ _ _ _ (l.b * 8) (c.args.self.now.pattern.m - from) l.invariant.0 (omega arith) (omega arith) (omega arith)
     (rw back c.word_inside-x-2.ensures) (rw (back, is) c.eight_bytes-2.ensures) (rw (back, is) c.eight_bytes-3.ensures) c.same_where-2.ensures
