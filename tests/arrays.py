@@ -30,11 +30,12 @@ METHOD, OURS = "rules::Method", "Plain"
 # It tells the method that a number names, and 0 alone is plain: it may name other methods, and must be asked so.
 METHOD_OF, ASKED = "capi::scan::method_of", ["(", "method", ")"]
 
-# What the language itself has: types, functions of numbers, and the length of a slice.
+# What the language itself has: types, functions of numbers, and what a slice and its items are asked. None of these takes an
+# array or gives one.
 NUMBERS = ["u8", "u16", "u32", "u64", "usize", "i8", "i16", "i32", "i64", "isize"]
 OWN_TYPES = NUMBERS + ["bool", "f32", "f64", "self"]
-OF_NUMBERS = ["count_ones", "leading_zeros", "trailing_zeros"]
-OF_SLICES = ["len"]
+OF_NUMBERS = ["count_ones", "leading_zeros", "trailing_zeros", "from"]
+OF_VALUES = ["len", "get", "iter", "map_or", "fold", "div_ceil"]
 
 NOT_FOLLOWED = ["const", "enum", "extern", "fn", "impl", "mod", "static", "struct", "type", "unsafe", "use"]
 
@@ -189,7 +190,7 @@ class Reader:
     def method(self, name, of):
         found = self.program.methods(self.module.path[0], name, of)
         self.calls += found
-        if not found and name not in OF_SLICES:
+        if not found and name not in OF_VALUES:
             self.fault(name, "cannot find .%s()" % name)
 
     def path(self, tokens, i):
@@ -300,7 +301,7 @@ def judged(crates):
 PLANT = "let planted = [0u8; 16];"
 
 # Where the samples are put.
-DEEP = "bits::load::byte_or_zero"
+DEEP = "bits::load::word_inside"
 
 # Put at the beginning of the deep function, each of these must be found, by these words. The part after a line of three
 # dashes goes to the end of its file.
@@ -344,6 +345,9 @@ WRONG = [
     ("let planted = crate::bit::nowhere(f);", "cannot find crate::bit::nowhere"),
     ("let planted = std::num::wrapping_add_u32(f, f);", "cannot find std::num::wrapping_add_u32"),
     ("let planted = u64::swap_bytes(f);", "cannot find u64::swap_bytes"),
+    ("let planted = u64::from_be_bytes(f);", "cannot find u64::from_be_bytes"),
+    ("let planted = f.first_chunk();", "cannot find .first_chunk()"),
+    ("let planted = f.iter().fold(0, |x, y| nowhere(x, y));", "cannot find nowhere"),
     ("let planted = f.nowhere();", "cannot find .nowhere()"),
     ("let planted = TABLE;\n---\nuse std::TABLE;", "cannot find std::TABLE, which is used,"),
     ("let planted = TABLE;\n---\nuse crate::nowhere::TABLE;", "cannot find crate::nowhere::TABLE, which is used,"),
@@ -361,6 +365,7 @@ RIGHT = [
     "let planted = f.0[1];",
     "let planted = u64::trailing_zeros(f) + g.len();",
     "let planted = ByteNo(1).place().byte();",
+    "let planted = f.get(g).map_or(0, |x| u64::from(*x));",
     "let planted = g;\n---\nfn not_called() -> [u8; 4] {\n    [0u8; 4]\n}",
 ]
 

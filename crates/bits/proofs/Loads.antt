@@ -1,15 +1,18 @@
 -- Loads: whole bytes as bits, and a load that begins inside a byte, put together from two that begin at one.
 -- Assumes nothing.
 use mathlib.Core.Path.{◌≡◌, sym, ◌∙◌, ap, ap₂}
-use mathlib.Core.List.{List}
+use mathlib.Core.List.{List, [], ◌∷◌}
 use Prim.Native.Nat.{ℕ, suc, ◌+◌, ◌-◌, ◌*◌, ◌/◌, ◌%◌, ◌^◌, ◌≤◌, ◌<◌}
 use native.Mathlib.Omega.{arith}
 use native.Mathlib.Nat.{add-zero, zero-add, mul-one, zero-div, div-one, div-add-mod'}
 use native.Mathlib.Decide.{dec_le}
-use lib.ListN.{length, get_or, get_or-eq_default}
+use lib.ListN.{length, take, drop, get_or, get_or-eq_default}
 use lib.Dec.{lit<, lit≤}
 use lib.Bits.{bit_or, or_shifted, or_zero_r}
 use lib.Pow.{pow_pos, pow-add, low, high, shl_lt, shl_exact, mod-mod-pow}
+use Rattle.std.specs.List.{fold}
+use Rattle.std.proofs.Common.{length-take, length-drop}
+use Rattle.std.proofs.lemmas.List.{get_or-take, get_or-drop}
 use Rattle.bits.specs.Packed.{weight, bit_at, bits_at}
 use Rattle.bits.proofs.Weight.{weight_zero, same_weights}
 use Rattle.bits.proofs.Run.{bit_past, bits_lt, bits_add, bits_first, bits_last, weight_of_bits, agree→load}
@@ -269,3 +272,49 @@ bits_end bytes b k few end =
     none =
         same_weights (64 - k * 8) _ 0 (bits_lt bytes (b * 8 + k * 8) (64 - k * 8)) (pow_pos (64 - k * 8))
         (λ i l. weight_of_bits bytes (b * 8 + k * 8) l ∙ bit_past bytes (b * 8 + k * 8 + (64 - k * 8 - 1 - i)) (omega arith) ∙ sym (weight_zero i))
+
+-- how a loop joins one byte more within 64 bits, and all that follow the k that it has joined
+abbrev pub joins : ℕ → ℕ → ℕ
+joins x byte = bit_or (x * 256 % 2 ^ 64) byte
+
+joined : (bytes : List ℕ) (b k : ℕ) (rest : List ℕ) → k + length rest ≤ 8 → ((i : ℕ) → get_or bytes i 0 < 256)
+    → ((i : ℕ) → i < length rest → get_or bytes (b + k + i) 0 ≡ get_or rest i 0)
+    → fold joins (bits_at bytes (b * 8) (k * 8)) rest ≡ bits_at bytes (b * 8) ((k + length rest) * 8)
+joined bytes b k [] few small same = ap (λ (n : ℕ). bits_at bytes (b * 8) (n * 8)) (sym (add-zero k))
+joined bytes b k (byte ∷ rest) few small same =
+    ap (λ (x : ℕ). fold joins x rest) one_more
+    ∙ joined bytes b (suc k) rest (omega arith) small (λ i l. ap (λ (n : ℕ). get_or bytes n 0) (omega arith) ∙ same (suc i) (omega arith))
+    ∙ ap (λ (n : ℕ). bits_at bytes (b * 8) (n * 8)) (omega arith)
+  where
+    so_far : ℕ
+    so_far = bits_at bytes (b * 8) (k * 8)
+
+    here : byte ≡ get_or bytes (b + k) 0
+    here = sym (ap (λ (n : ℕ). get_or bytes n 0) (sym (add-zero (b + k))) ∙ same 0 (omega arith))
+
+    one_more : joins so_far byte ≡ bits_at bytes (b * 8) (suc k * 8)
+    one_more =
+        ap₂ bit_or (shl_exact {a = so_far} (k * 8) 8 64 (bits_lt bytes (b * 8) (k * 8)) (omega arith)) here
+        ∙ or_shifted so_far 8 (get_or bytes (b + k) 0) (small (b + k))
+        ∙ sym (bytes_more bytes b k (small (b + k)))
+
+-- the last bytes, joined by a loop and moved to the front of 64 bits
+pub last_joined : (bytes : List ℕ) (b : ℕ) {x s : ℕ} → length bytes ≤ b + 8 → ((i : ℕ) → get_or bytes i 0 < 256)
+    → x ≡ fold joins 0 (take (length bytes - b) (drop b bytes)) → s ≡ length (take (length bytes - b) (drop b bytes)) * 8
+    → x * 2 ^ (64 - s) % 2 ^ 64 ≡ bits_at bytes (b * 8) 64
+unfolding bits_at
+last_joined bytes b {x} {s} few small ex es =
+    ap₂ (λ (y t : ℕ). y * 2 ^ (64 - t) % 2 ^ 64) (ex ∙ joined bytes b 0 rest (omega (arith, long)) small same) es
+    ∙ ap (λ (n : ℕ). bits_at bytes (b * 8) (n * 8) * 2 ^ (64 - length rest * 8) % 2 ^ 64) (zero-add (length rest))
+    ∙ shl_exact {a = bits_at bytes (b * 8) (length rest * 8)} (length rest * 8) (64 - length rest * 8) 64 (bits_lt bytes (b * 8) (length rest * 8)) (omega (arith, long))
+    ∙ sym (bits_end bytes b (length rest) (omega (arith, long)) (omega (arith, long)))
+  where
+    rest : List ℕ
+    rest = take (length bytes - b) (drop b bytes)
+
+    long : length rest ≡ length bytes - b
+    long = omega (arith, length-take (length bytes - b) (drop b bytes), length-drop b bytes)
+
+    same : (i : ℕ) → i < length rest → get_or bytes (b + 0 + i) 0 ≡ get_or rest i 0
+    same i l =
+        sym (get_or-take (length bytes - b) (drop b bytes) i 0 (omega (arith, long)) ∙ get_or-drop b bytes i 0 ∙ ap (λ (n : ℕ). get_or bytes n 0) (omega arith))

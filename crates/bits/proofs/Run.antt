@@ -76,13 +76,9 @@ weight_of_bits bytes p {i} {k} h =
     inside : k - 1 - i < k
     inside = omega arith
 
--- Two runs agree on k bits exactly when their loads agree.
+-- The loads of two runs that agree on k bits are the same.
 pub agree→load : (a b : List ℕ) (p q k : ℕ) → ((j : ℕ) → j < k → bit_at a (p + j) ≡ bit_at b (q + j)) → bits_at a p k ≡ bits_at b q k
 unfolding bits_at
 agree→load a b p q zero e = refl
 agree→load a b p q (suc k) e =
     rw (agree→load a b p q k (λ j h. e j (omega arith)), e k (omega arith))
-
-pub load→agree : (a b : List ℕ) (p q k : ℕ) → bits_at a p k ≡ bits_at b q k → (j : ℕ) → j < k → bit_at a (p + j) ≡ bit_at b (q + j)
-load→agree a b p q k e j h =
-    sym (bit_of_bits a p h) ∙ ap (λ (x : ℕ). bit_of k x j) e ∙ bit_of_bits b q h

@@ -8,10 +8,8 @@ use crate::Place;
 pub fn bit(bytes: &[u8], p: Place) -> u8
     ensures { result ≡ bit_at bytes.now p.0 }
 {
-    let at = p.byte().0;
-    if at < bytes.len() {
-        (bytes[at] >> (7 - p.offset())) % 2
-    } else {
-        0
-    }
+    let from_right = 7 - p.offset();
+    bytes
+        .get(p.byte().0)
+        .map_or(0, |byte| (*byte >> from_right) % 2)
 }

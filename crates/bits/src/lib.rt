@@ -9,11 +9,11 @@ pub mod bit;
 pub mod load;
 
 // A bit number, counted from 0. Document 01's own word for it is "place".
-#[derive(Clone, Copy)]
+#[derive(Clone, Copy, PartialEq, Eq, PartialOrd, Ord, Debug)]
 pub struct Place(pub u32);
 
 // A byte number, counted from 0.
-#[derive(Clone, Copy)]
+#[derive(Clone, Copy, PartialEq, Eq, PartialOrd, Ord, Debug)]
 pub struct ByteNo(pub usize);
 
 impl Place {
@@ -55,5 +55,5 @@ pub fn bytes_for(n: u64) -> u64
     requires { n ≤ 2 ^ 63 }
     ensures { result ≡ bytes_for n }
 {
-    (n + 7) / 8
+    n.div_ceil(8)
 }

@@ -4,32 +4,26 @@ ghost use Rattle.bits.specs.Packed.{bits_at};
 
 use crate::{ByteNo, Place};
 
-// Eight bytes as one number, the first one highest.
+// Eight bytes as one number, the first one highest. By hand, since `u64::from_be_bytes` takes an array, which no function of a
+// search for one pattern may have, and a loop over eight bytes is not always compiled to one machine load.
 fn join(a: u8, b: u8, c: u8, d: u8, e: u8, f: u8, g: u8, h: u8) -> u64
     ensures { result ≡ bits_at (a ∷ b ∷ c ∷ d ∷ e ∷ f ∷ g ∷ h ∷ []) 0 64 }
 {
-    ((a as u64) << 56)
-        | ((b as u64) << 48)
-        | ((c as u64) << 40)
-        | ((d as u64) << 32)
-        | ((e as u64) << 24)
-        | ((f as u64) << 16)
-        | ((g as u64) << 8)
-        | (h as u64)
-}
-
-fn wide(x: u8) -> u64
-    ensures { result ≡ x }
-{
-    x as u64
+    (u64::from(a) << 56)
+        | (u64::from(b) << 48)
+        | (u64::from(c) << 40)
+        | (u64::from(d) << 32)
+        | (u64::from(e) << 24)
+        | (u64::from(f) << 16)
+        | (u64::from(g) << 8)
+        | u64::from(h)
 }
 
 // Byte b, 0 past the last one.
 fn byte_or_zero(bytes: &[u8], b: ByteNo) -> u64
     ensures { result ≡ get_or bytes.now b.0 0 }
 {
-    let at = b.0;
-    if at < bytes.len() { wide(bytes[at]) } else { 0 }
+    bytes.get(b.0).map_or(0, |byte| u64::from(*byte))
 }
 
 // The eight bits from p on.
@@ -51,9 +45,8 @@ pub fn byte_inside(bytes: &[u8], p: Place) -> usize
     let last = Place(p.0 + 7);
     let b = p.byte().0;
     let e = last.byte().0;
-    let left = wide(bytes[b]);
-    let right = wide(bytes[e]);
-    (((left * 256 + right) >> (7 - last.offset())) % 256) as usize
+    let both = usize::from(bytes[b]) * 256 + usize::from(bytes[e]);
+    (both >> (7 - last.offset())) % 256
 }
 
 // Eight whole bytes from byte b on, the first one highest: one machine load and a byte swap.
@@ -74,19 +67,19 @@ pub fn eight_bytes(bytes: &[u8], b: ByteNo) -> u64
     )
 }
 
-// The same near the end of the bytes, one at a time.
+// The same where the bytes end with these eight or before: only those that are there are read.
 fn last_bytes(bytes: &[u8], b: ByteNo) -> u64
-    requires { b.0 + 8 ≤ 2 ^ 32 }
+    requires { length bytes.now ≤ b.0 + 8 }
     ensures { result ≡ bits_at bytes.now (b.0 * 8) 64 }
 {
-    let at = b.0;
-    let mut x: u64 = 0;
-    let mut k: usize = 0;
-    while k < 8 {
-        x = x * 256 + byte_or_zero(bytes, ByteNo(at + k));
-        k += 1;
+    if bytes.len() <= b.0 {
+        return 0;
     }
-    x
+    let rest = &bytes[b.0..];
+    let joined = rest
+        .iter()
+        .fold(0, |x: u64, byte| x << 8 | u64::from(*byte));
+    joined << (64 - ByteNo(rest.len()).place().0)
 }
 
 // The 64 bits from p on where nine bytes from p's byte on are there: no branch.
@@ -97,7 +90,7 @@ pub fn word_inside(bytes: &[u8], p: Place) -> u64
     let b = p.byte();
     let r = p.offset();
     let ninth = b.0 + 8;
-    (eight_bytes(bytes, b) << r) | (wide(bytes[ninth]) >> (8 - r))
+    (eight_bytes(bytes, b) << r) | (u64::from(bytes[ninth]) >> (8 - r))
 }
 
 // The 64 bits from p on.
@@ -133,23 +126,14 @@ pub fn word_at_byte(bytes: &[u8], b: ByteNo) -> u64
     }
 }
 
-// The same where the bytes mostly end soon, as those of a short pattern do: only those that are there are read.
+// The same where the bytes mostly end soon, as those of a short pattern do.
 pub fn word_near_end(bytes: &[u8], b: ByteNo) -> u64
     requires { b.0 < 2 ^ 29 }
     ensures { result ≡ bits_at bytes.now (b.0 * 8) 64 }
 {
-    let at = b.0;
-    if at + 8 <= bytes.len() {
-        return eight_bytes(bytes, b);
+    if bytes.len() < b.0 + 8 {
+        last_bytes(bytes, b)
+    } else {
+        eight_bytes(bytes, b)
     }
-    let mut x: u64 = 0;
-    let mut k: usize = 0;
-    while at + k < bytes.len() {
-        x = x * 256 + wide(bytes[at + k]);
-        k += 1;
-    }
-    if k == 0 {
-        return 0;
-    }
-    x << (64 - ByteNo(k).place().0)
 }

@@ -23,4 +23,6 @@ returns c =
     let s4 = join_byte xs 4 24 refl h.e.fits (lit≤ tt) s3 in
     let s5 = join_byte xs 5 16 refl h.f.fits (lit≤ tt) s4 in
     let s6 = join_byte xs 6 8 refl h.g.fits (lit≤ tt) s5 in
-    join_last xs 7 refl h.h.fits s6
+    rw
+    (c.from.ensures, c.from-2.ensures, c.from-3.ensures, c.from-4.ensures, c.from-5.ensures, c.from-6.ensures, c.from-7.ensures, c.from-8.ensures)
+    (join_last xs 7 refl h.h.fits s6)

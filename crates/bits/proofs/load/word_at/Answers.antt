@@ -5,9 +5,6 @@ use lib.Dec.{lit<}
 use Rattle.bits.proofs.Loads.{load_at_end}
 use Rattle.bits.proofs.load.word_at.Goals as goal
 
-pub word_inside-requires : goal.word_inside-requires
-word_inside-requires c = omega (arith, c.byte-b.ensures)
-
 pub returns-else-b-bytes : goal.returns-else-b-bytes
 returns-else-b-bytes c =
     let a = c.args in

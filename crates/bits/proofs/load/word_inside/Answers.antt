@@ -9,5 +9,5 @@ pub returns : goal.returns
 returns c =
     let a = c.args in
     rw
-    (c.eight_bytes.ensures, c.wide.ensures, c.byte-b.ensures, c.offset-r.ensures)
+    (c.eight_bytes.ensures, c.from.ensures, c.byte-b.ensures, c.offset-r.ensures)
     (load_at a.bytes.now a.p.0 8 (lit< tt) (c.type_inv.bytes (a.p.0 / 8 + 8)).fits)
