@@ -82,16 +82,18 @@ impl Matcher for Hash {
         let mut hits = 0usize;
         while at < end && steps < budget {
             let v = load::byte_inside(query.text, Place(at + back));
-            if (v ^ last) & care == 0 && query.same(Place(at)) {
-                if list.len() <= hits {
-                    return Err(Full(Reached {
-                        at: Place(at),
-                        steps,
-                        hits,
-                    }));
+            if (v ^ last) & care == 0 {
+                if query.same(Place(at)) {
+                    if list.len() <= hits {
+                        return Err(Full(Reached {
+                            at: Place(at),
+                            steps,
+                            hits,
+                        }));
+                    }
+                    list[hits] = at;
+                    hits += 1;
                 }
-                list[hits] = at;
-                hits += 1;
             }
             steps += 1;
             at += search.cells[v] as u32;

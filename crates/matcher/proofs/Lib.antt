@@ -10,3 +10,4 @@ pub mod Writing
 pub mod Advancing
 pub mod Shifted
 pub mod Compared
+pub mod Rest

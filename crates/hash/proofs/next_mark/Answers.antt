@@ -10,7 +10,7 @@ use Rattle.hash.proofs.next_mark.Goals.{After-byte_inside-v}
 -- what the cell holds
 cell : (c : After-byte_inside-v)
     → let a = c.args in
-    CellAt (text_in a.search.now.query) (pattern_in a.search.now.query) a.cells.now a.s.0 c.byte_inside-v.result
+    CellAt (text_in a.search.now.query) (pattern_in a.search.now.query) a.search.now.cells.now a.s.0 c.byte_inside-v.result
 cell c =
     let a = c.args in
     cell_at (text_in a.search.now.query) (pattern_in a.search.now.query) a.search.now.cells.now a.search.now.ready a.s.0 _ c.byte_inside-v.ensures
@@ -18,13 +18,13 @@ cell c =
 pub byte_inside-v-requires : goal.byte_inside-v-requires
 byte_inside-v-requires c =
     let a = c.args in
-    eight_inside (text_in a.search.now.query) (pattern_in a.search.now.query) a.search.now.cells.now a.search.now.ready a.s.0 c.requires.s_bound
+    eight_inside (text_in a.search.now.query) (pattern_in a.search.now.query) a.search.now.cells.now a.search.now.ready a.s.0 c.requires
 
-pub offset_bounds-cells-v : goal.offset_bounds-cells-v
-offset_bounds-cells-v c = omega (arith, (cell (goal.at.offset_bounds-cells-v c).After-byte_inside-v).small)
+pub offset_bounds-search-v : goal.offset_bounds-search-v
+offset_bounds-search-v c = omega (arith, (cell (goal.at.offset_bounds-search-v c).After-byte_inside-v).small)
 
-pub bounds-cells-v : goal.bounds-cells-v
-bounds-cells-v c = omega (arith, (cell (goal.at.bounds-cells-v c).After-byte_inside-v).there)
+pub bounds-search-v : goal.bounds-search-v
+bounds-search-v c = omega (arith, (cell (goal.at.bounds-search-v c).After-byte_inside-v).there)
 
 pub overflow_cast-far : goal.overflow_cast-far
 overflow_cast-far c = omega (arith, (cell (goal.at.overflow_cast-far c).After-byte_inside-v).high)

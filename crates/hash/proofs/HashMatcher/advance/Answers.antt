@@ -25,7 +25,7 @@ size c = writing_length _ _ _ _ _ c.loop-at.invariant.0.writing
 -- what the cell of the eight bits holds
 cell : (c : After-byte_inside-v)
     → let a = c.args in
-    CellAt (text_in a.search.now.query) (pattern_in a.search.now.query) a.cells.now c.loop-at.at c.byte_inside-v.result
+    CellAt (text_in a.search.now.query) (pattern_in a.search.now.query) a.search.now.cells.now c.loop-at.at c.byte_inside-v.result
 cell c =
     let a = c.args in
     cell_at (text_in a.search.now.query) (pattern_in a.search.now.query) a.search.now.cells.now a.search.now.ready _ _ c.byte_inside-v.ensures
@@ -41,19 +41,19 @@ more : (c : Then-steps-budget) (at hits : ℕ) (no_cell : Bool) (list : List ℕ
     → let a = c.args in
     let l = c.loop-at in
     Stepped Hash (text_in a.search.now.query) (pattern_in a.search.now.query) l.at l.list l.hits at hits no_cell list
-    → Advanced Hash (text_in a.search.now.query) (pattern_in a.search.now.query) a.s.0 a.budget a.list.now a.had at (counted no_cell l.steps) hits no_cell list
+    → Advanced Hash (text_in a.search.now.query) (pattern_in a.search.now.query) a.s.0 a.budget a.list.now 0 at (counted no_cell l.steps) hits no_cell list
 more c at hits no_cell list u =
     let a = c.args in
     let l = c.loop-at in
     let here : min l.at (places (text_in a.search.now.query) (pattern_in a.search.now.query)) ≡ l.at = omega arith in
-    advanced_step Hash (text_in a.search.now.query) (pattern_in a.search.now.query) a.s.0 a.budget a.list.now a.had l.at l.steps l.hits l.list c.requires.s_bound.1 (rw here at l.invariant.0)
+    advanced_step Hash (text_in a.search.now.query) (pattern_in a.search.now.query) a.s.0 a.budget a.list.now 0 l.at l.steps l.hits l.list (omega arith) (rw here at l.invariant.0)
     at hits no_cell list (omega arith) (omega (arith, ltb-true)) u
 
 -- whichever way the turn goes on, it makes one step
 one : (c : Joined-v-last-eq0)
     → let a = c.args in
     let l = c.loop-at in
-    Stepped Hash (text_in a.search.now.query) (pattern_in a.search.now.query) l.at l.list l.hits (min (l.at + get_or a.cells.now c.byte_inside-v.result 0) (places (text_in a.search.now.query) (pattern_in a.search.now.query))) c.if-v-last-eq0.hits false c.if-v-last-eq0.list
+    Stepped Hash (text_in a.search.now.query) (pattern_in a.search.now.query) l.at l.list l.hits (min (l.at + get_or a.search.now.cells.now c.byte_inside-v.result 0) (places (text_in a.search.now.query) (pattern_in a.search.now.query))) c.if-v-last-eq0.hits false c.if-v-last-eq0.list
 one c =
     let size : length c.loop-at.list ≡ length c.args.list.now = writing_length _ _ _ _ _ c.loop-at.invariant.0.writing in
     let a = c.args in
@@ -84,18 +84,18 @@ loop-at-preserved c = (more (goal.at.loop-at-preserved c).Then-steps-budget _ _ 
 
 pub byte_inside-last-requires : goal.byte_inside-last-requires
 byte_inside-last-requires c =
-    eight_of_run c.args.pattern.now _ c.args.search.now.ready.pattern (c.args.known.m - 8) (omega (arith, long_enough _ c.args.search.now.ready.pattern)) c.args.search.now.ready.pattern.bytes_there
+    eight_of_run c.args.search.now.query.pattern.bytes.now _ c.args.search.now.ready.pattern (c.args.search.now.query.pattern.m - 8) (omega (arith, long_enough _ c.args.search.now.ready.pattern)) c.args.search.now.ready.pattern.bytes_there
 
 pub byte_inside-care-requires : goal.byte_inside-care-requires
 byte_inside-care-requires c =
-    eight_of_run c.args.fixed.now _ c.args.search.now.ready.pattern (c.args.known.m - 8) (omega (arith, long_enough _ c.args.search.now.ready.pattern)) c.args.search.now.ready.pattern.fixed_there
+    eight_of_run c.args.search.now.query.pattern.fixed.now _ c.args.search.now.ready.pattern (c.args.search.now.query.pattern.m - 8) (omega (arith, long_enough _ c.args.search.now.ready.pattern)) c.args.search.now.ready.pattern.fixed_there
 
 pub loop-at-init : goal.loop-at-init
 loop-at-init c =
     let a = c.args in
     let enough = long_enough _ c.args.search.now.ready.pattern in
     let here : min a.s.0 (places (text_in a.search.now.query) (pattern_in a.search.now.query)) ≡ a.s.0 = omega arith in
-    (rw here (advanced_none Hash (text_in a.search.now.query) (pattern_in a.search.now.query) a.s.0 a.budget a.list.now a.had c.requires.s_bound.1 c.requires.s_bound.0), omega arith)
+    (rw here (advanced_none Hash (text_in a.search.now.query) (pattern_in a.search.now.query) a.s.0 a.budget a.list.now 0 (omega arith) c.requires), omega arith)
 
 pub byte_inside-v-requires : goal.byte_inside-v-requires
 byte_inside-v-requires c =
@@ -105,8 +105,7 @@ byte_inside-v-requires c =
 pub same-requires : goal.same-requires
 same-requires c =
     let r = c.args.search.now.ready in
-    let enough = long_enough _ r.pattern in
-    record { m_nonzero = (omega arith, r.pattern.few_bits, omega arith); head_of = c.requires.head_of }
+    omega arith
 
 pub shape_of-list-then-list-hits : goal.shape_of-list-then-list-hits
 shape_of-list-then-list-hits c = size (goal.at.shape_of-list-then-list-hits c).At-loop-at
@@ -122,11 +121,11 @@ returns-then-list-hits c =
 pub overflow_add-steps : goal.overflow_add-steps
 overflow_add-steps c = omega (arith, ltb-true)
 
-pub offset_bounds-cells-v : goal.offset_bounds-cells-v
-offset_bounds-cells-v c = omega (arith, (cell (goal.at.offset_bounds-cells-v c).After-byte_inside-v).small)
+pub offset_bounds-search-v : goal.offset_bounds-search-v
+offset_bounds-search-v c = omega (arith, (cell (goal.at.offset_bounds-search-v c).After-byte_inside-v).small)
 
-pub bounds-cells-v : goal.bounds-cells-v
-bounds-cells-v c = (cell (goal.at.bounds-cells-v c).After-byte_inside-v).there
+pub bounds-search-v : goal.bounds-search-v
+bounds-search-v c = (cell (goal.at.bounds-search-v c).After-byte_inside-v).there
 
 pub overflow_cast-at : goal.overflow_cast-at
 overflow_cast-at c = omega (arith, (cell (goal.at.overflow_cast-at c).After-byte_inside-v).high)
@@ -143,5 +142,5 @@ shape_of-list c = size (goal.at.shape_of-list c).At-loop-at
 pub returns : goal.returns
 returns c =
     let a = c.args in
-    let end : a.known.n - a.known.m + 1 ≡ places (text_in a.search.now.query) (pattern_in a.search.now.query) = omega (arith, c.args.search.now.ready.inside) in
+    let end : a.search.now.query.n - a.search.now.query.pattern.m + 1 ≡ places (text_in a.search.now.query) (pattern_in a.search.now.query) = omega (arith, c.args.search.now.ready.inside) in
     rw (c.cut.ensures, end) c.loop-at.invariant.0

@@ -11,7 +11,7 @@ use Rattle.hash.proofs.HashMatcher.advance.Given as goal
 
 abbrev pub invariant-loop-at : goal.invariant-loop-at
 invariant-loop-at l = let E = places (text_in l.query) (pattern_in l.query) in
-    Advanced Hash (text_in l.query) (pattern_in l.query) l.initial.at l.budget l.initial.list l.had (min l.at E) l.steps l.hits false l.list × (l.at ≤ l.query.n)
+    Advanced Hash (text_in l.query) (pattern_in l.query) l.initial.at l.budget l.initial.list 0 (min l.at E) l.steps l.hits false l.list × (l.at ≤ l.query.n)
 
 abbrev pub decreases-loop-at : goal.decreases-loop-at
 decreases-loop-at l = l.budget - l.steps
