@@ -1,5 +1,5 @@
 // What a method is to a call: tables, and steps from any mark.
-ghost use Rattle.std.specs.Prelude.{◌≤◌, ◌<◌, length};
+ghost use Rattle.std.specs.Prelude.{◌≡◌, ◌+◌, ◌^◌, ◌≤◌, ◌<◌, length};
 ghost use Rattle.rules.specs.Occurrence.{places};
 ghost use Rattle.rules.specs.Scratch.{scratch_cells};
 ghost use Rattle.matcher.specs.Tables.{Prepared};
@@ -22,6 +22,20 @@ pub struct Reached {
 // A place that found no cell of the list. The mark is that place, and its step is not complete, so it is not counted.
 #[derive(Clone, Copy)]
 pub struct Full(pub Reached);
+
+impl Full {
+    // The same after so many steps, which wrote so many cells of the list.
+    pub fn after(self, steps: u32, hits: usize) -> Full
+        requires { (self.0.steps + steps < 2 ^ 32) × (self.0.hits + hits < 2 ^ 64) }
+        ensures { (result.0.at ≡ self.0.at) × (result.0.steps ≡ steps + self.0.steps) × (result.0.hits ≡ hits + self.0.hits) }
+    {
+        Full(Reached {
+            at: self.0.at,
+            steps: steps + self.0.steps,
+            hits: hits + self.0.hits,
+        })
+    }
+}
 
 // A method. Its steps write the places that they find to the list, from its first cell on.
 pub trait Matcher: Rule {

@@ -1,16 +1,19 @@
 -- What the loop of a call leaves, what a call may rely on when it has passed the check, and what its parts promise.
-use Rattle.std.specs.Prelude.{ℕ, ◌^◌, ◌≤◌, ◌≡◌, Bool, true, false, cond, List, [], ◌++◌, eqb, length, drop}
+use Rattle.std.specs.Prelude.{ℕ, ◌^◌, ◌≤◌, ◌≡◌, Bool, true, false, cond, List, [], ◌++◌, eqb, length, drop, Result, Ok, Err, Unit}
 use Rattle.bits.specs.Packed.{Packed, bytes_for}
 use Rattle.rules.specs.declared.Method.{Method}
 use Rattle.search.specs.declared.Answer.{Answer}
-use Rattle.search.specs.declared.check.Checked.{Checked}
-use Rattle.search.specs.declared.check.Checked.TheVariants.{Passed, Refused}
+use Rattle.search.specs.declared.Mark.{Mark}
+use Rattle.search.specs.declared.Refusal.{Refusal}
 use Rattle.rules.specs.Pattern.{Pattern}
 use Rattle.rules.specs.Occurrence.{places}
 use Rattle.rules.specs.Scratch.{scratch_cells}
 use Rattle.rules.specs.Machine.{Ending, done, spent, full, run}
 use Rattle.search.specs.Verdict.{Verdict, refused, accepted, rows, judge, number_of_refusal, ending_of, Carries}
+use Rattle.matcher.specs.declared.steps.Reached.{Reached}
+use Rattle.matcher.specs.declared.steps.Full.{Full}
 use Rattle.matcher.specs.Ready.{GoodPattern}
+use Rattle.matcher.specs.Progress.{Stepped}
 
 -- how a run stopped, by whether a place found no cell, the mark left and the number of places
 abbrev pub ending_at : Bool → ℕ → ℕ → Ending
@@ -25,10 +28,25 @@ pub record Ran (x : Method) (t : Packed) (w : Pattern) (s budget : ℕ) (before 
   pub ending_is : ending_at cut at (places t w) ≡ (run x t w budget s (length before)).ending
   pub list_is : list ≡ (run x t w budget s (length before)).written ++ drop (length (run x t w budget s (length before)).written) before
 
+-- the same of what the loop gives back
+abbrev pub RunGives : Method → Packed → Pattern → ℕ → ℕ → List ℕ → Result Reached Full → List ℕ → Type 0
+RunGives x t w s budget before (Ok r) list = Ran x t w s budget before r.at.0 r.steps r.hits false list
+RunGives x t w s budget before (Err f) list = Ran x t w s budget before f.0.at.0 f.0.steps f.0.hits true list
+
+-- how far the steps came, whether each place had a cell or not
+abbrev pub come_to : Result Reached Full → Reached
+come_to (Ok r) = r
+come_to (Err f) = f.0
+
+-- one step of a mark: the advanced mark beside how many places were written
+abbrev pub StepMade : Method → Packed → Pattern → ℕ → List ℕ → Result (Mark × ℕ) Full → List ℕ → Type 0
+StepMade x t w s before (Ok m) list = Stepped x t w s before 0 m.0.at.0 m.1 false list
+StepMade x t w s before (Err f) list = Stepped x t w s before 0 f.0.at.0 f.0.hits true list × (f.0.steps ≡ 0)
+
 -- what the check of a call says: passed, or the number of its refusal
-abbrev pub check_of : Checked → Verdict (Unit {0})
-check_of Passed = accepted tt
-check_of (Refused r) = refused (number_of_refusal r)
+abbrev pub check_of : Result (Unit {0}) Refusal → Verdict (Unit {0})
+check_of (Ok _) = accepted tt
+check_of (Err r) = refused (number_of_refusal r)
 
 -- the first of the refusals 1, 2, 3, 4, 17, 5, 6, 7 that applies; the list and the budget play no part in them
 unfoldable pub check_verdict : Packed → Pattern → Method → ℕ → List ℕ → Verdict (Unit {0})
@@ -56,3 +74,8 @@ pub record Tells (a : Answer) (at steps hits : ℕ) (cut : Bool) (E : ℕ) : Typ
   pub hits_are : a.occurrences ≡ hits
   pub mark_is : a.mark.at.0 ≡ at
   pub ending_is : ending_of a.stop ≡ ending_at cut at E
+
+-- the same of what the loop gave back
+abbrev pub TellsOf : Answer → Result Reached Full → ℕ → Type 0
+TellsOf a (Ok r) E = Tells a r.at.0 r.steps r.hits false E
+TellsOf a (Err f) E = Tells a f.0.at.0 f.0.steps f.0.hits true E

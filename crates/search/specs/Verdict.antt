@@ -1,11 +1,9 @@
 -- What a search call answers: the first refusal that applies, or what the machine comes to ("When the panel says no").
-use Rattle.std.specs.Prelude.{ℕ, ◌^◌, ◌≡◌, Bool, true, false, ◌||◌, cond, List, [], ◌∷◌, ◌++◌, ltb, eqb, length, drop}
+use Rattle.std.specs.Prelude.{ℕ, ◌^◌, ◌≡◌, Bool, true, false, ◌||◌, cond, List, [], ◌∷◌, ◌++◌, ltb, eqb, length, drop, Result, Ok, Err}
 use Rattle.bits.specs.Packed.{Packed, bytes_for}
 use Rattle.search.specs.declared.Answer.{Answer}
 use Rattle.rules.specs.declared.Method.{Method}
 use Rattle.rules.specs.declared.Method.TheVariants.{Hash}
-use Rattle.search.specs.declared.Outcome.{Outcome}
-use Rattle.search.specs.declared.Outcome.TheVariants.{Accepted, Refused}
 use Rattle.search.specs.declared.Refusal.{Refusal}
 use Rattle.search.specs.declared.Refusal.TheVariants.{TextTooLong, TextBytesMissing, PatternLength, PatternBytesMissing, FixedBytesMissing, PatternUnfit, BeyondEnd, ScratchTooShort}
 use Rattle.search.specs.declared.Stop.{Stop}
@@ -162,6 +160,6 @@ pub record RefusedAs (q : Request) (r : Refusal) (list scratch : List ℕ) : Typ
   pub scratch_is : scratch ≡ q.scratch
 
 -- What the search call promises of its answer and of the list and the scratch as it returns.
-abbrev pub Searched : Request → Outcome → List ℕ → List ℕ → Type 0
-Searched q (Accepted a) list scratch = AcceptedAs q a list scratch
-Searched q (Refused r) list scratch = RefusedAs q r list scratch
+abbrev pub Searched : Request → Result Answer Refusal → List ℕ → List ℕ → Type 0
+Searched q (Ok a) list scratch = AcceptedAs q a list scratch
+Searched q (Err r) list scratch = RefusedAs q r list scratch

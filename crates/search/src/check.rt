@@ -7,13 +7,6 @@ ghost use Rattle.search.specs.Parts.{check_of, check_verdict};
 use crate::{Method, Refusal};
 use bits::Place;
 
-// Whether a call is refused.
-#[derive(Clone, Copy)]
-pub enum Checked {
-    Passed,
-    Refused(Refusal),
-}
-
 // Whether the method takes no pattern of m bits.
 pub fn does_not_fit(method: Method, m: u64) -> bool
     ensures { result ≡ unfit method m }
@@ -45,35 +38,35 @@ pub fn check(
     method: Method,
     mark: Place,
     scratch: &[u64],
-) -> Checked
+) -> Result<(), Refusal>
     ensures { check_of result ≡ check_verdict (text_of text.now n) (pattern_of pattern.now fixed.now m) method mark.0 scratch.now }
 {
     if 1073741824 < n {
-        return Checked::Refused(Refusal::TextTooLong);
+        return Err(Refusal::TextTooLong);
     }
     if (text.len() as u64) < bits::bytes_for(n) {
-        return Checked::Refused(Refusal::TextBytesMissing);
+        return Err(Refusal::TextBytesMissing);
     }
     if m == 0 {
-        return Checked::Refused(Refusal::PatternLength);
+        return Err(Refusal::PatternLength);
     }
     if 2048 < m {
-        return Checked::Refused(Refusal::PatternLength);
+        return Err(Refusal::PatternLength);
     }
     if (pattern.len() as u64) < bits::bytes_for(m) {
-        return Checked::Refused(Refusal::PatternBytesMissing);
+        return Err(Refusal::PatternBytesMissing);
     }
     if (fixed.len() as u64) < bits::bytes_for(m) {
-        return Checked::Refused(Refusal::FixedBytesMissing);
+        return Err(Refusal::FixedBytesMissing);
     }
     if does_not_fit(method, m) {
-        return Checked::Refused(Refusal::PatternUnfit);
+        return Err(Refusal::PatternUnfit);
     }
     if places(n, m) < mark.0 as u64 {
-        return Checked::Refused(Refusal::BeyondEnd);
+        return Err(Refusal::BeyondEnd);
     }
     if (scratch.len() as u64) < method.scratch_cells(m as u32) {
-        return Checked::Refused(Refusal::ScratchTooShort);
+        return Err(Refusal::ScratchTooShort);
     }
-    Checked::Passed
+    Ok(())
 }

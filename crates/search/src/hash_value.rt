@@ -6,32 +6,32 @@ ghost use Rattle.matcher.specs.Ready.{pattern_of};
 
 use crate::Refusal;
 use hash_tables::value;
-
-#[derive(Clone, Copy)]
-pub enum HashAnswer {
-    Value(u32),
-    Refused(Refusal),
-}
+use matcher::query::Pattern;
 
 // H(B) of the first m bits of the pattern, with refusals 3, 4, 17 and 5.
 #[tactic(auto, using(crate::proofs::Rows::hash_unfit))]
-pub fn hash_value(pattern: &[u8], fixed: &[u8], m: u64, value: u8) -> HashAnswer
+pub fn hash_value(pattern: &[u8], fixed: &[u8], m: u64, value: u8) -> Result<u32, Refusal>
     ensures { hash_answer result ≡ hash_verdict (pattern_of pattern.now fixed.now m) value }
 {
     if m == 0 {
-        return HashAnswer::Refused(Refusal::PatternLength);
+        return Err(Refusal::PatternLength);
     }
     if 2048 < m {
-        return HashAnswer::Refused(Refusal::PatternLength);
+        return Err(Refusal::PatternLength);
     }
     if (pattern.len() as u64) < bits::bytes_for(m) {
-        return HashAnswer::Refused(Refusal::PatternBytesMissing);
+        return Err(Refusal::PatternBytesMissing);
     }
     if (fixed.len() as u64) < bits::bytes_for(m) {
-        return HashAnswer::Refused(Refusal::FixedBytesMissing);
+        return Err(Refusal::FixedBytesMissing);
     }
     if m < 8 {
-        return HashAnswer::Refused(Refusal::PatternUnfit);
+        return Err(Refusal::PatternUnfit);
     }
-    HashAnswer::Value(value::hash_of(pattern, fixed, m as u32, value))
+    let pattern = Pattern {
+        bytes: pattern,
+        fixed,
+        m: m as u32,
+    };
+    Ok(value::hash_of(&pattern, value))
 }

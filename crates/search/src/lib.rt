@@ -7,26 +7,27 @@ mod check;
 pub mod hash_value;
 pub mod scratch_cells;
 
-ghost use Rattle.std.specs.Prelude.{◌≡◌, ◌≤◌, ◌<◌, length};
+ghost use Rattle.std.specs.Prelude.{◌≡◌, ◌<◌};
 ghost use Rattle.rules.specs.Occurrence.{places};
 ghost use Rattle.search.specs.Verdict.{number_of_refusal, Searched};
+ghost use Rattle.search.specs.Parts.{StepMade};
+ghost use Rattle.matcher.specs.Ready.{text_of, pattern_of};
 ghost use Rattle.matcher.specs.Asked.{text_in, pattern_in};
-ghost use Rattle.matcher.specs.Progress.{Stepped};
-ghost use Rattle.matcher.specs.Ready.{text_of, pattern_of, HeadOf, Ready};
 
 use bits::Place;
-use check::Checked;
-use matcher::compare::Known;
+use matcher::query::Pattern;
+use matcher::search::Search;
+use matcher::steps::{Full, Matcher};
 pub use rules::Method;
 
 // How far a search has come: the first place that is not yet decided.
-#[derive(Clone, Copy)]
+#[derive(Clone, Copy, PartialEq, Eq, Debug)]
 pub struct Mark {
     pub at: Place,
 }
 
 // How an accepted call stopped. `Full` carries the occurrence that found no free cell.
-#[derive(Clone, Copy)]
+#[derive(Clone, Copy, PartialEq, Eq, Debug)]
 pub enum Stop {
     Done,
     Full(Place),
@@ -34,7 +35,7 @@ pub enum Stop {
 }
 
 // The answer of an accepted call.
-#[derive(Clone, Copy)]
+#[derive(Clone, Copy, PartialEq, Eq, Debug)]
 pub struct Answer {
     pub steps: u32,
     pub occurrences: u32,
@@ -43,7 +44,7 @@ pub struct Answer {
 }
 
 // Why a call was refused.
-#[derive(Clone, Copy)]
+#[derive(Clone, Copy, PartialEq, Eq, Debug)]
 pub enum Refusal {
     TextTooLong,
     TextBytesMissing,
@@ -73,22 +74,6 @@ impl Refusal {
     }
 }
 
-// What a call gives back.
-#[derive(Clone, Copy)]
-pub enum Outcome {
-    Accepted(Answer),
-    Refused(Refusal),
-}
-
-// What one step leaves: the advanced mark, and beside it how many cells of the list are written and whether a place
-// found none.
-#[derive(Clone, Copy)]
-pub struct Step {
-    pub mark: Mark,
-    pub hits: usize,
-    pub full: bool,
-}
-
 impl Mark {
     // A fresh mark: no place is decided.
     pub fn new() -> Mark
@@ -111,43 +96,26 @@ impl Mark {
         budget: u32,
         list: &mut [u32],
         scratch: &mut [u64],
-    ) -> Outcome
+    ) -> Result<Answer, Refusal>
         ensures { Searched (record { text = text_of text.entry.now n; pattern = pattern_of pattern.now fixed.now m; method = method; mark = self.at.0; budget = budget; list = list.old; scratch = scratch.old }) result list.new scratch.new }
     {
-        let at = self.at;
-        let checked = check::check(text, n, pattern, fixed, m, method, at, scratch);
-        match checked {
-            Checked::Refused(why) => Outcome::Refused(why),
-            Checked::Passed => Outcome::Accepted(call::accepted(
-                self, method, text, n as u32, pattern, fixed, m as u32, budget, list, scratch,
-            )),
-        }
+        check::check(text, n, pattern, fixed, m, method, self.at, scratch)?;
+        let pattern = Pattern {
+            bytes: pattern,
+            fixed,
+            m: m as u32,
+        };
+        Ok(call::accepted(
+            self, method, text, n as u32, pattern, budget, list, scratch,
+        ))
     }
 
-    // One step by the method's rule: the advanced mark beside what the step wrote. The tables are made.
-    fn step(
-        self,
-        method: Method,
-        text: &[u8],
-        pattern: &[u8],
-        fixed: &[u8],
-        known: Known,
-        cells: &[u64],
-        list: &mut [u32],
-        had: usize,
-    ) -> Step
-        requires ready { Ready method (text_in text.now known) (pattern_in pattern.now fixed.now known) cells.now }
-        requires head_of { HeadOf (pattern_in pattern.now fixed.now known) known.head known.mask }
-        requires at_bound { (self.at.0 < places (text_in text.now known) (pattern_in pattern.now fixed.now known)) × (had ≤ length list.old) }
-        ensures { Stepped method (text_in text.now known) (pattern_in pattern.now fixed.now known) self.at.0 list.old had result.mark.at.0 result.hits result.full list.new }
+    // One step by the rule of the method M: the advanced mark beside how many places it wrote.
+    fn step<M: Matcher>(self, search: &Search<M>, list: &mut [u32]) -> Result<(Mark, usize), Full>
+        requires { self.at.0 < places (text_in search.now.query) (pattern_in search.now.query) }
+        ensures { StepMade M.method (text_in search.now.query) (pattern_in search.now.query) self.at.0 list.old result list.new }
     {
-        let s = self.at;
-        let found = methods::step(method, text, pattern, fixed, known, cells, s, list, had);
-        let at = found.at;
-        Step {
-            mark: Mark { at: at },
-            hits: found.hits,
-            full: found.full,
-        }
+        let made = M::step(search, self.at, list)?;
+        Ok((Mark { at: made.at }, made.hits))
     }
 }

@@ -5,25 +5,19 @@ ghost use Rattle.search.specs.Scratch.{cells_answer};
 
 use crate::{Method, Refusal, check};
 
-#[derive(Clone, Copy)]
-pub enum CellsAnswer {
-    Cells(u64),
-    Refused(Refusal),
-}
-
 // The cells that the method takes for a pattern of m bits, with refusals 3 and 5.
 #[tactic(auto, using(crate::proofs::Rows::cells_long))]
-pub fn scratch_cells(method: Method, m: u64) -> CellsAnswer
+pub fn scratch_cells(method: Method, m: u64) -> Result<u64, Refusal>
     ensures { cells_answer result ≡ scratch_verdict method m }
 {
     if m == 0 {
-        return CellsAnswer::Refused(Refusal::PatternLength);
+        return Err(Refusal::PatternLength);
     }
     if 2048 < m {
-        return CellsAnswer::Refused(Refusal::PatternLength);
+        return Err(Refusal::PatternLength);
     }
     if check::does_not_fit(method, m) {
-        return CellsAnswer::Refused(Refusal::PatternUnfit);
+        return Err(Refusal::PatternUnfit);
     }
-    CellsAnswer::Cells(method.scratch_cells(m as u32))
+    Ok(method.scratch_cells(m as u32))
 }
