@@ -1,5 +1,6 @@
 -- From the check of a call to what its steps may rely on, and from what its steps leave to the call's promise.
 -- Assumes nothing.
+use Rattle.std.specs.Prelude.{Result, Ok, Err}
 use mathlib.Core.Path.{◌≡◌, refl, sym, ap, ◌∙◌}
 use mathlib.Core.Bool.{Bool, true, false, ◌||◌}
 use mathlib.Core.List.{List}
@@ -12,15 +13,15 @@ use Rattle.bits.specs.Packed.{Packed}
 use Rattle.rules.specs.declared.Method.{Method}
 use Rattle.search.specs.declared.Answer.{Answer}
 use Rattle.search.specs.declared.Refusal.{Refusal}
-use Rattle.search.specs.declared.check.Checked.{Checked}
-use Rattle.search.specs.declared.check.Checked.TheVariants.{Passed, Refused}
 use Rattle.rules.specs.Pattern.{Pattern}
 use Rattle.rules.specs.Occurrence.{places}
 use Rattle.rules.specs.Step.{unfit}
 use Rattle.rules.specs.Machine.{run, stopped}
 use Rattle.search.specs.Verdict.{Request, rows, AllFail, refused, machine, verdict, number_of_refusal, Carries}
+use Rattle.matcher.specs.declared.steps.Reached.{Reached}
+use Rattle.matcher.specs.declared.steps.Full.{Full}
 use Rattle.matcher.specs.Tables.{Prepared}
-use Rattle.search.specs.Parts.{check_of, check_verdict, Allowed, Ran, Tells, Leaves}
+use Rattle.search.specs.Parts.{check_of, check_verdict, Allowed, Ran, RunGives, come_to, Tells, TellsOf, Leaves}
 use Rattle.rules.proofs.Occurrence.{occurrences_length}
 use Rattle.rules.proofs.Machine.{run_ended, left}
 use Rattle.search.proofs.Verdict.{judge_accepted, judge_refused, refused_judge}
@@ -74,12 +75,23 @@ module _ (x : Method) (t : Packed) (w : Pattern) (s budget : ℕ) (before cells 
         scratch_rest = p.rest;
       }
 
+-- the same of what the loop gave back
+pub few_come : (x : Method) (t : Packed) (w : Pattern) (s budget : ℕ) (before : List ℕ) (r : Result Reached Full) (list : List ℕ)
+    → unfit x w.count ≡ false → s ≤ places t w → t.count ≤ 2 ^ 30 → 0 < w.count → RunGives x t w s budget before r list → (come_to r).hits ≤ 2 ^ 30
+few_come x t w s budget before (Ok r) list fit h n m u = few_hits x t w s budget before _ _ _ _ list fit h n m u
+few_come x t w s budget before (Err f) list fit h n m u = few_hits x t w s budget before _ _ _ _ list fit h n m u
+
+pub leaves_of : (x : Method) (t : Packed) (w : Pattern) (s budget : ℕ) (before cells : List ℕ) (a : Answer) (r : Result Reached Full) (list scratch : List ℕ)
+    → RunGives x t w s budget before r list → TellsOf a r (places t w) → Prepared x w cells scratch → Leaves x t w s budget before cells a list scratch
+leaves_of x t w s budget before cells a (Ok r) list scratch u k p = leaves_run x t w s budget before cells a _ _ _ _ list scratch u k p
+leaves_of x t w s budget before cells a (Err f) list scratch u k p = leaves_run x t w s budget before cells a _ _ _ _ list scratch u k p
+
 -- what the check said, of the whole request
-module _ (q : Request) (k : Checked) (says : check_of k ≡ check_verdict q.text q.pattern q.method q.mark q.scratch) where
-  pub passed : k ≡ Passed → AllFail (rows q)
+module _ (q : Request) (k : Result (Unit {0}) Refusal) (says : check_of k ≡ check_verdict q.text q.pattern q.method q.mark q.scratch) where
+  pub passed : k ≡ Ok tt → AllFail (rows q)
   unfolding check_verdict rows
   passed e = (judge_accepted tt (rows q) tt (sym says ∙ ap check_of e)).0
 
-  pub not_passed : (r : Refusal) → k ≡ Refused r → verdict q ≡ refused (number_of_refusal r)
+  pub not_passed : (r : Refusal) → k ≡ Err r → verdict q ≡ refused (number_of_refusal r)
   unfolding check_verdict rows verdict
   not_passed r e = refused_judge (machine q) (rows q) (number_of_refusal r) (judge_refused tt (rows q) (number_of_refusal r) (sym says ∙ ap check_of e))

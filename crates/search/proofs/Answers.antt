@@ -1,5 +1,6 @@
 -- The promise of the search call leaves nothing open but the cells of the scratch before the method's figure after an accepted
 -- call: each request has an answer that meets it, and only one.
+use Rattle.std.specs.Prelude.{Ok, Err}
 use Prim.Native.Nat.{ℕ}
 use mathlib.Core.Path.{◌≡◌, refl, sym, ap, ◌∙◌}
 use mathlib.Core.Bool.{cond}
@@ -7,15 +8,13 @@ use mathlib.Core.List.{List, ◌++◌}
 use lib.Dec.{eqb}
 use lib.ListN.{length, drop}
 use Rattle.search.specs.declared.Answer.{Answer}
-use Rattle.search.specs.declared.Outcome.{Outcome}
-use Rattle.search.specs.declared.Outcome.TheVariants.{Accepted, Refused}
 use Rattle.search.specs.declared.Refusal.{Refusal}
 use Rattle.search.specs.declared.Refusal.TheVariants.{TextTooLong, TextBytesMissing, PatternLength, PatternBytesMissing, FixedBytesMissing, PatternUnfit, BeyondEnd, ScratchTooShort}
 use Rattle.search.specs.declared.Stop.{Stop}
 use Rattle.search.specs.declared.Stop.TheVariants.{Done, Full, Spent}
 use Rattle.rules.specs.Scratch.{scratch_cells}
 use Rattle.rules.specs.Machine.{Ending, done, spent, full, Run}
-use Rattle.search.specs.Verdict.{Request, Verdict, refused, accepted, rows, machine, verdict, number_of_refusal, ending_of, Carries, Searched}
+use Rattle.search.specs.Verdict.{Outcome, Request, Verdict, refused, accepted, rows, machine, verdict, number_of_refusal, ending_of, Carries, Searched}
 use Rattle.search.proofs.Verdict.{refused_not_accepted, given, accepted_fail, accepted_iff}
 
 -- back from a number to the refusal, and from an ending to the way to stop
@@ -78,10 +77,10 @@ carries_only a r c = λ i. record {
 -- The scratch cells before the method's figure "are free after an accepted call (the only part left free)": on all else two
 -- scratches agree
 abbrev pub SameScratch : Request → Outcome → List ℕ → List ℕ → Type 0
-SameScratch q (Accepted a) s u =
+SameScratch q (Ok a) s u =
     let figure = scratch_cells q.method q.pattern.count in
     (length s ≡ length u) × (drop figure s ≡ drop figure u)
-SameScratch q (Refused r) s u = s ≡ u
+SameScratch q (Err r) s u = s ≡ u
 
 -- what two calls with the same request have in common
 pub record Same (q : Request) (o p : Outcome) (l m s u : List ℕ) : Type 0 where
@@ -91,20 +90,20 @@ pub record Same (q : Request) (o p : Outcome) (l m s u : List ℕ) : Type 0 wher
 
 -- one answer, one list and one scratch as the call returns
 pub unique : (q : Request) (o p : Outcome) (l m s u : List ℕ) → Searched q o l s → Searched q p m u → Same q o p l m s u
-unique q (Accepted a) (Accepted b) l m s u c d =
+unique q (Ok a) (Ok b) l m s u c d =
     record {
-      outcome = ap {B = Outcome} Accepted (carries_only a (machine q) c.answer ∙ sym (carries_only b (machine q) d.answer));
+      outcome = ap {B = Outcome} Ok (carries_only a (machine q) c.answer ∙ sym (carries_only b (machine q) d.answer));
       list = c.list_is ∙ sym d.list_is;
       scratch = (c.scratch_length ∙ sym d.scratch_length, c.scratch_rest ∙ sym d.scratch_rest);
     }
-unique q (Accepted a) (Refused r) l m s u c d = absurd (refused_not_accepted (verdict q) _ _ d.verdict_is c.verdict_is)
-unique q (Refused r) (Accepted a) l m s u c d = absurd (refused_not_accepted (verdict q) _ _ c.verdict_is d.verdict_is)
-unique q (Refused r) (Refused t) l m s u c d =
+unique q (Ok a) (Err r) l m s u c d = absurd (refused_not_accepted (verdict q) _ _ d.verdict_is c.verdict_is)
+unique q (Err r) (Ok a) l m s u c d = absurd (refused_not_accepted (verdict q) _ _ c.verdict_is d.verdict_is)
+unique q (Err r) (Err t) l m s u c d =
     let first = c.verdict_is in
     let second = d.verdict_is in
     let same : number_of_refusal r ≡ number_of_refusal t = cc in
     record {
-      outcome = ap {B = Outcome} Refused (sym (refusal_back r) ∙ ap refusal_of same ∙ refusal_back t);
+      outcome = ap {B = Outcome} Err (sym (refusal_back r) ∙ ap refusal_of same ∙ refusal_back t);
       list = c.list_is ∙ sym d.list_is;
       scratch = c.scratch_is ∙ sym d.scratch_is;
     }
@@ -130,14 +129,14 @@ answered q = go (verdict q) refl
     go : (v : Verdict Run) → verdict q ≡ v → Answered q
     go (refused k) e =
         record {
-          outcome = Refused (refusal_of k);
+          outcome = Err (refusal_of k);
           list = q.list;
           scratch = q.scratch;
           searched = record { verdict_is = e ∙ ap {B = Verdict Run} refused (sym (numbered q k e)); list_is = refl; scratch_is = refl };
         }
     go (accepted r) e =
         record {
-          outcome = Accepted (answer_for (machine q));
+          outcome = Ok (answer_for (machine q));
           list = (machine q).written ++ drop (length (machine q).written) q.list;
           scratch = q.scratch;
           searched =

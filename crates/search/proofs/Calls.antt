@@ -1,5 +1,6 @@
 -- Demand 3: what is true of every list of calls that each meet the search call's promise, the first from mark 0 and each
 -- from the mark that the one before left.
+use Rattle.std.specs.Prelude.{Ok, Err}
 use Prim.Native.Nat.{ℕ, ◌≤◌}
 use mathlib.Core.Path.{◌≡◌, refl, sym, ap, ◌∙◌}
 use mathlib.Core.List.Memᴰ
@@ -10,12 +11,10 @@ use lib.ListN.{length}
 use lib.Seq.{take_at}
 use borrow.Author.Tests.{ltb-false}
 use Rattle.bits.specs.Packed.{Packed}
-use Rattle.search.specs.declared.Outcome.{Outcome}
-use Rattle.search.specs.declared.Outcome.TheVariants.{Accepted, Refused}
 use Rattle.rules.specs.Pattern.{Pattern}
 use Rattle.rules.specs.Occurrence.{places, occurrences}
 use Rattle.rules.specs.Machine.{done, Left}
-use Rattle.search.specs.Verdict.{Request, rows, refused, accepted, machine, verdict, number_of_refusal, Searched}
+use Rattle.search.specs.Verdict.{Outcome, Request, rows, refused, accepted, machine, verdict, number_of_refusal, Searched}
 use Rattle.search.specs.Calls.{request_of, Call, mark_of, places_of, steps_of, stop_of, Made, Result, answer_of, result_of, results, result_by, machine_results, last_mark, joined, all_steps, last_stop, Whole}
 use Rattle.rules.proofs.Occurrence.{occurrences_append, occurrences_none, occurrences_rising, occurrences_exactly}
 use Rattle.rules.proofs.Machine.{left}
@@ -38,7 +37,7 @@ none_between t w s = occurrences_none t w s s (λ p l u. absurd (omega arith))
 -- One call, refused or accepted.
 one : (q : Request) (o : Outcome) (list scratch : List ℕ) → q.mark ≤ places q.text q.pattern → Searched q o list scratch
     → Passed (occurrences q.text q.pattern) (places q.text q.pattern) q.mark (places_of o list) (steps_of o) (stop_of o) (mark_of q.mark o)
-one q (Accepted a) list scratch h c =
+one q (Ok a) list scratch h c =
     let l = accepted_left q c.verdict_is in
     let is = c.answer in
     one_passed _ _ q.mark _ _ _ _
@@ -47,17 +46,17 @@ one q (Accepted a) list scratch h c =
     (omega (arith, l.high, is.mark))
     (λ d. is.mark ∙ l.done_iff.0 (sym is.ending ∙ d), λ m. is.ending ∙ l.done_iff.1 (sym is.mark ∙ m))
     (rw (is.steps, is.mark) l.bounded)
-one q (Refused r) list scratch h c = none_passed _ _ q.mark (none_between q.text q.pattern q.mark) h
+one q (Err r) list scratch h c = none_passed _ _ q.mark (none_between q.text q.pattern q.mark) h
 
 kept : (q : Request) (o : Outcome) (list scratch : List ℕ) → Searched q o list scratch → InBudget q.budget (steps_of o) (stop_of o)
-kept q (Accepted a) list scratch c =
+kept q (Ok a) list scratch c =
     let l = accepted_left q c.verdict_is in
     let is = c.answer in
     record {
       spent_all = λ e. is.steps ∙ l.spent_all (sym is.ending ∙ some-injective _ _ e);
       within = omega (arith, l.within, is.steps);
     }
-kept q (Refused r) list scratch c = none_spent q.budget
+kept q (Err r) list scratch c = none_spent q.budget
 
 -- The same of a list of calls from the mark s.
 from : (t : Packed) (w : Pattern) (calls : List Call) (s : ℕ) → s ≤ places t w → Made t w s calls
@@ -83,14 +82,14 @@ result_is q c h = go c.outcome h
   where
     go : (o : Outcome) → Searched q o c.list_after c.scratch_after
         → record { answer = answer_of o; list = c.list_after; mark = mark_of q.mark o } ≡ result_by q (verdict q)
-    go (Accepted a) h =
+    go (Ok a) h =
         let is = h.answer in
         rw h.verdict_is (λ i. record {
           answer = accepted (record { steps = is.steps i; occurrences = is.occurrences i; mark = is.mark i; ending = is.ending i });
           list = h.list_is i;
           mark = is.mark i;
         })
-    go (Refused r) h =
+    go (Err r) h =
         rw h.verdict_is (λ i. record { answer = refused (number_of_refusal r); list = h.list_is i; mark = q.mark })
 
 results_from : (t : Packed) (w : Pattern) (calls : List Call) (s : ℕ) → Made t w s calls

@@ -4,7 +4,7 @@ use mathlib.Core.Path.{◌≡◌, refl, sym, ap, ◌∙◌}
 use mathlib.Core.Bool.{Bool, true, false}
 use borrow.Author.Tests.{ltb-true}
 use mathlib.Core.List.{List, ◌++◌, append-nil}
-use Prim.Native.Nat.{ℕ, ◌≤◌, ◌<◌, ◌-◌}
+use Prim.Native.Nat.{ℕ, ◌≤◌, ◌<◌, ◌+◌, ◌-◌}
 use native.Mathlib.Nat.{add-zero, zero-add, sub-zero}
 use native.Mathlib.Decide.{dec_le}
 use native.Mathlib.Omega.{arith}
@@ -20,7 +20,8 @@ use Rattle.matcher.specs.Progress.{Writing, Stepped, Advanced}
 use Rattle.search.specs.Parts.{Ran, ending_at}
 use Rattle.matcher.proofs.Progress.{run_to_budget, run_to_end}
 use Rattle.matcher.proofs.Writing.{writing_length}
-use Rattle.matcher.proofs.Advancing.{advanced_step}
+use Rattle.matcher.proofs.Advancing.{advanced_step, advanced_join}
+use Rattle.matcher.proofs.Rest.{rest_of, with_rest, stepped_rest, advanced_rest}
 
 -- what is written stands in front, and the cells after it are as they were
 pub writing_front : (before found list : List ℕ) (hits : ℕ) → Writing before 0 found list hits → list ≡ found ++ drop (length found) before
@@ -110,3 +111,27 @@ module _ (x : Method) (t : Packed) (w : Pattern) (s budget : ℕ) (before : List
         spent = ran_spent list at steps hits a;
         full = λ list' at' hits' no_cell u e l b. ran_cut_step list list' at steps hits at' hits' no_cell a u e l b;
       }
+
+-- A turn of the loop: a step on the rest of the list, and many after it on what is left of that.
+module _ (x : Method) (t : Packed) (w : Pattern) (s budget : ℕ) (before list : List ℕ) (at steps hits : ℕ)
+    (made : Advanced x t w s budget before 0 at steps hits false list) (inside : at < places t w) (left : steps < budget) where
+  pub cells_left : hits ≤ length list
+  cells_left = omega (arith, writing_length before 0 made.found list hits made.writing, made.writing.fits)
+
+  module _ (new : List ℕ) (at' wrote : ℕ) (one : Stepped x t w at (rest_of list hits cells_left) 0 at' wrote false new) where
+    -- the step
+    pub step_more : Advanced x t w s budget before 0 at' (steps + 1) (hits + wrote) false (with_rest list hits cells_left new)
+    step_more =
+        advanced_step x t w s budget before 0 at steps hits list (omega arith) made at' (hits + wrote) false _ inside left
+        (stepped_rest list hits cells_left x t w at at' wrote false new one)
+
+    pub cells_after : hits + wrote ≤ length (with_rest list hits cells_left new)
+    cells_after = omega (arith, writing_length before 0 step_more.found _ _ step_more.writing, step_more.writing.fits)
+
+    -- and those after it
+    pub many_more : (last : List ℕ) (end k more : ℕ) (no_cell : Bool)
+        → Advanced x t w at' (budget - (steps + 1)) (rest_of (with_rest list hits cells_left new) (hits + wrote) cells_after) 0 end k more no_cell last
+        → Advanced x t w s budget before 0 end (steps + 1 + k) (hits + wrote + more) no_cell (with_rest (with_rest list hits cells_left new) (hits + wrote) cells_after last)
+    many_more last end k more no_cell u =
+        advanced_join x t w s budget before 0 at' (steps + 1) (hits + wrote) _ end k (hits + wrote + more) no_cell _ (omega arith) step_more
+        (advanced_rest (with_rest list hits cells_left new) (hits + wrote) cells_after x t w at' end more no_cell last (budget - (steps + 1)) k u)

@@ -1,5 +1,6 @@
 -- An accepted call with a step and a cell to use moves the mark or is done; calls with no cell never leave an occurrence.
 -- Assumes nothing.
+use Rattle.std.specs.Prelude.{Ok, Err}
 use Prim.Native.Nat.{ℕ, zero, suc, ◌<◌}
 use mathlib.Core.Path.{◌≡◌, refl, ◌∙◌, ap}
 use mathlib.Core.Bool.{false}
@@ -13,15 +14,13 @@ use Rattle.rules.specs.Step.{unfit}
 use Rattle.rules.specs.Machine.{full, Run, stopped}
 use Rattle.rules.proofs.Machine.{run_spent, moves, stays}
 use Rattle.search.specs.declared.Answer.{Answer}
-use Rattle.search.specs.declared.Outcome.{Outcome}
-use Rattle.search.specs.declared.Outcome.TheVariants.{Accepted, Refused}
-use Rattle.search.specs.Verdict.{Request, rows, machine, Searched}
+use Rattle.search.specs.Verdict.{Outcome, Request, rows, machine, Searched}
 use Rattle.search.specs.Calls.{request_of, Call, mark_of, steps_of, Made, last_mark, all_steps}
 use Rattle.search.specs.Progress.{Progress, NoCells, Stuck}
 use Rattle.search.proofs.Verdict.{accepted_iff}
 use Rattle.search.proofs.Calls.{accepted_left}
 
-module _ (q : Request) (a : Answer) (list scratch : List ℕ) (made : Searched q (Accepted a) list scratch) where
+module _ (q : Request) (a : Answer) (list scratch : List ℕ) (made : Searched q (Ok a) list scratch) where
   -- the method takes the pattern
   fit : unfit q.method q.pattern.count ≡ false
   unfolding rows
@@ -52,8 +51,8 @@ module _ (q : Request) (a : Answer) (list scratch : List ℕ) (made : Searched q
 pub one_stuck : (q : Request) (o : Outcome) (list scratch : List ℕ) → Searched q o list scratch → Occurs q.text q.pattern q.mark → length q.list ≡ 0
     → (mark_of q.mark o ≡ q.mark) × (steps_of o ≡ 0)
 unfolding machine stopped
-one_stuck q (Refused r) list scratch made here none = (refl, refl)
-one_stuck q (Accepted a) list scratch made here none = go q.budget refl
+one_stuck q (Err r) list scratch made here none = (refl, refl)
+one_stuck q (Ok a) list scratch made here none = go q.budget refl
   where
     idle : q.budget ≡ 0 → machine q ≡ stopped (places q.text q.pattern) q.mark
     idle e = rw e (run_spent q.method q.text q.pattern q.mark (length q.list))

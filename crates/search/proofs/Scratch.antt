@@ -1,6 +1,7 @@
 -- The scratch is room for the tables and nothing else: two calls that differ in it alone, each with enough cells, come to the
 -- same answer, list and mark. And the figure that is told by itself is just what a search needs.
 -- Assumes nothing.
+use Rattle.std.specs.Prelude.{Ok, Err}
 use Prim.Native.Nat.{ℕ}
 use mathlib.Core.Path.{◌≡◌, refl, sym, ◌∙◌}
 use mathlib.Core.Bool.{Bool, true, false, cond, ◌&&◌}
@@ -11,9 +12,7 @@ use lib.Dec.{eqb}
 use lib.ListN.{length}
 use Rattle.rules.specs.declared.Method.{Method}
 use Rattle.rules.specs.Scratch.{scratch_cells}
-use Rattle.search.specs.declared.Outcome.{Outcome}
-use Rattle.search.specs.declared.Outcome.TheVariants.{Accepted, Refused}
-use Rattle.search.specs.Verdict.{Request, Row, refused, accepted, rows, judge, machine, verdict, scratch_verdict, Searched}
+use Rattle.search.specs.Verdict.{Outcome, Request, Row, refused, accepted, rows, judge, machine, verdict, scratch_verdict, Searched}
 use Rattle.search.specs.Scratch.{with_scratch, Enough, SameAnswers, Needs}
 use Rattle.search.proofs.Verdict.{judge_accepted, accepted_fail}
 use Rattle.search.proofs.Answers.{unique}
@@ -29,7 +28,7 @@ module _ (q : Request) (other : List ℕ) (enough : Enough q) (enough' : Enough 
   -- the promise of the second call is one about the first
   as_first : (p : Outcome) (list scratch : List ℕ) → Searched (with_scratch q other) p list scratch → Searched q p list q.scratch
   unfolding machine
-  as_first (Accepted a) list scratch s =
+  as_first (Ok a) list scratch s =
       record {
         verdict_is = sym verdict_same ∙ s.verdict_is;
         answer = s.answer;
@@ -37,7 +36,7 @@ module _ (q : Request) (other : List ℕ) (enough : Enough q) (enough' : Enough 
         scratch_length = refl;
         scratch_rest = refl;
       }
-  as_first (Refused r) list scratch s =
+  as_first (Err r) list scratch s =
       record { verdict_is = sym verdict_same ∙ s.verdict_is; list_is = s.list_is; scratch_is = refl }
 
   pub same_answers : (o p : Outcome) (l k s u : List ℕ) → Searched q o l s → Searched (with_scratch q other) p k u → SameAnswers o p l k

@@ -1,5 +1,6 @@
 -- With every bit fixed a call answers as before there was a second run; patterns that are alike get the same answers.
 -- Assumes nothing.
+use Rattle.std.specs.Prelude.{Ok, Err}
 use Prim.Native.Nat.{ℕ, ◌≤◌}
 use mathlib.Core.Path.{◌≡◌, sym, ap, ◌∙◌}
 use mathlib.Core.Bool.{false}
@@ -15,9 +16,7 @@ use Rattle.rules.specs.Wild.{AllFixed}
 use Rattle.rules.specs.Scratch.{scratch_cells}
 use Rattle.rules.specs.Machine.{Run}
 use Rattle.rules.proofs.Before.{as_before}
-use Rattle.search.specs.declared.Outcome.{Outcome}
-use Rattle.search.specs.declared.Outcome.TheVariants.{Accepted, Refused}
-use Rattle.search.specs.Verdict.{Request, text_too_long, text_bytes_missing, pattern_length, pattern_bytes_missing, pattern_unfit, mark_beyond, accepted, rows, judge, machine, verdict, hash_verdict, Searched}
+use Rattle.search.specs.Verdict.{Outcome, Request, text_too_long, text_bytes_missing, pattern_length, pattern_bytes_missing, pattern_unfit, mark_beyond, accepted, rows, judge, machine, verdict, hash_verdict, Searched}
 use Rattle.search.specs.Scratch.{SameAnswers}
 use Rattle.search.specs.Wild.{cells_before, verdict_before, hash_verdict_before, EveryBitFixed, with_pattern, BothThere}
 use Rattle.search.proofs.Verdict.{judge_accepted}
@@ -82,7 +81,7 @@ module _ (w v : Pattern) (b : BothThere w v) where
 
     -- the promise of the second call is one about the first
     as_first : (p : Outcome) (list scratch : List ℕ) → Searched (with_pattern q v) p list scratch → Searched (with_pattern q w) p list scratch
-    as_first (Accepted a) list scratch s =
+    as_first (Ok a) list scratch s =
         let same = machine_same s.verdict_is in
         record {
           verdict_is = verdict_same ∙ s.verdict_is ∙ ap accepted same;
@@ -91,7 +90,7 @@ module _ (w v : Pattern) (b : BothThere w v) where
           scratch_length = s.scratch_length;
           scratch_rest = rw b.alike.as_many s.scratch_rest;
         }
-    as_first (Refused r) list scratch s =
+    as_first (Err r) list scratch s =
         record { verdict_is = verdict_same ∙ s.verdict_is; list_is = s.list_is; scratch_is = s.scratch_is }
 
     -- so two calls that differ in the pattern alone come to the same answer, mark and list

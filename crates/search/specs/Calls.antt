@@ -1,17 +1,16 @@
 -- A list of search calls on one text and one pattern, each going on from the mark that the call before it left; and the
 -- one claim about every such list (demand 3).
+use Rattle.std.specs.Prelude.{Ok, Err}
 use Rattle.std.specs.Prelude.{ℕ, ◌+◌, ◌≤◌, ◌<◌, ◌≡◌, ◌↔◌, length, take, drop}
 use mathlib.Core.List.{List, [], ◌∷◌, ◌++◌, map, Memᴰ}
 use Rattle.std.proofs.Math.Option.{Option, none, some}
 use Rattle.bits.specs.Packed.{Packed}
 use Rattle.rules.specs.declared.Method.{Method}
-use Rattle.search.specs.declared.Outcome.{Outcome}
-use Rattle.search.specs.declared.Outcome.TheVariants.{Accepted, Refused}
 use Rattle.rules.specs.Ranges.{Rising}
 use Rattle.rules.specs.Pattern.{Pattern}
 use Rattle.rules.specs.Occurrence.{Occurs, occurrences}
 use Rattle.rules.specs.Machine.{Ending, done, spent, Run}
-use Rattle.search.specs.Verdict.{Request, Verdict, refused, accepted, verdict, number_of_refusal, ending_of, Searched}
+use Rattle.search.specs.Verdict.{Outcome, Request, Verdict, refused, accepted, verdict, number_of_refusal, ending_of, Searched}
 
 -- What a call is asked beside text, pattern and mark. "Position list and scratch may come with any content and any length."
 pub record Asked : Type 0 where
@@ -41,24 +40,24 @@ pub record Call : Type 0 where
 
 -- the mark that a call leaves; a refused one "leaves the mark that it got"
 abbrev pub mark_of : ℕ → Outcome → ℕ
-mark_of s (Accepted a) = a.mark.at.0
-mark_of s (Refused r) = s
+mark_of s (Ok a) = a.mark.at.0
+mark_of s (Err r) = s
 
 -- "The places that a call wrote are the first cells of its position list as they stand when it returns, as many as the
 -- hits in its answer. A refused call wrote no place"
 abbrev pub places_of : Outcome → List ℕ → List ℕ
-places_of (Accepted a) list = take a.occurrences list
-places_of (Refused r) list = []
+places_of (Ok a) list = take a.occurrences list
+places_of (Err r) list = []
 
 -- a refused call "made no step"
 abbrev pub steps_of : Outcome → ℕ
-steps_of (Accepted a) = a.steps
-steps_of (Refused r) = 0
+steps_of (Ok a) = a.steps
+steps_of (Err r) = 0
 
 -- how an accepted call stopped
 abbrev pub stop_of : Outcome → Option Ending
-stop_of (Accepted a) = some (ending_of a.stop)
-stop_of (Refused r) = none
+stop_of (Ok a) = some (ending_of a.stop)
+stop_of (Err r) = none
 
 -- Each call meets the very promise of the search call, at the mark that the call before it left, the first at s.
 abbrev pub Made : Packed → Pattern → ℕ → List Call → Type 0
@@ -81,9 +80,9 @@ pub record Result : Type 0 where
 
 -- what the calls gave, the first at the mark s
 abbrev pub answer_of : Outcome → Verdict Carried
-answer_of (Accepted a) =
+answer_of (Ok a) =
     accepted (record { steps = a.steps; occurrences = a.occurrences; mark = a.mark.at.0; ending = ending_of a.stop })
-answer_of (Refused r) = refused (number_of_refusal r)
+answer_of (Err r) = refused (number_of_refusal r)
 
 abbrev pub result_of : ℕ → Call → Result
 result_of s c = record { answer = answer_of c.outcome; list = c.list_after; mark = mark_of s c.outcome }

@@ -1,5 +1,5 @@
 -- What the loop of a call leaves, what a call may rely on when it has passed the check, and what its parts promise.
-use Rattle.std.specs.Prelude.{ℕ, ◌^◌, ◌≤◌, ◌≡◌, Bool, true, false, cond, List, [], ◌++◌, eqb, length, drop, Result, Ok, Err, Unit}
+use Rattle.std.specs.Prelude.{ℕ, ◌^◌, ◌≤◌, ◌≡◌, Bool, true, false, cond, List, [], ◌++◌, eqb, length, drop, Result, Ok, Err}
 use Rattle.bits.specs.Packed.{Packed, bytes_for}
 use Rattle.rules.specs.declared.Method.{Method}
 use Rattle.search.specs.declared.Answer.{Answer}

@@ -2,9 +2,8 @@
 use Rattle.std.specs.Prelude.{ℕ, ◌≤◌, ◌<◌, ◌≡◌, List, length, Result, Ok, Err}
 use Rattle.rules.specs.Scratch.{scratch_cells}
 use Rattle.rules.specs.Machine.{Run}
-use Rattle.search.specs.declared.Answer.{Answer}
 use Rattle.search.specs.declared.Refusal.{Refusal}
-use Rattle.search.specs.Verdict.{Request, Verdict, refused, accepted, number_of_refusal, verdict}
+use Rattle.search.specs.Verdict.{Outcome, Request, Verdict, refused, accepted, number_of_refusal, verdict}
 
 -- ---- two calls that differ in the scratch alone
 
@@ -26,7 +25,7 @@ abbrev pub Enough : Request → Type 0
 Enough q = scratch_cells q.method q.pattern.count ≤ length q.scratch
 
 -- "with the same answers": two calls came to the same outcome, an answer with its mark or a refusal, and left the same list
-pub record SameAnswers (o p : Result Answer Refusal) (list other : List ℕ) : Type 0 where
+pub record SameAnswers (o p : Outcome) (list other : List ℕ) : Type 0 where
   pub outcome : o ≡ p
   pub lists : list ≡ other
 

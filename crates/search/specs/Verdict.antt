@@ -159,7 +159,11 @@ pub record RefusedAs (q : Request) (r : Refusal) (list scratch : List ℕ) : Typ
   pub list_is : list ≡ q.list
   pub scratch_is : scratch ≡ q.scratch
 
+-- What a call gives back: the answer, or why it was refused.
+abbrev pub Outcome : Type 0
+Outcome = Result Answer Refusal
+
 -- What the search call promises of its answer and of the list and the scratch as it returns.
-abbrev pub Searched : Request → Result Answer Refusal → List ℕ → List ℕ → Type 0
+abbrev pub Searched : Request → Outcome → List ℕ → List ℕ → Type 0
 Searched q (Ok a) list scratch = AcceptedAs q a list scratch
 Searched q (Err r) list scratch = RefusedAs q r list scratch

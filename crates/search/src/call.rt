@@ -43,7 +43,7 @@ pub fn run<M: Matcher>(
         let many = M::advance(search, moved.at, budget - steps, &mut list[hits..]);
         let more = match many {
             Ok(more) => more,
-            Err(full) => return Err(full.after(steps, hits)),
+            Err(cut) => return Err(cut.after(steps, hits)),
         };
         at = more.at.0;
         steps += more.steps;
@@ -84,7 +84,7 @@ fn by<M: Matcher>(
     list: &mut [u32],
     scratch: &mut [u64],
 ) -> Answer
-    requires { Allowed M.method (text_of text.now n) (lent pattern.entry) mark.at.0 scratch.old }
+    requires { Allowed M.method (text_of text.now n) (lent pattern) mark.at.0 scratch.old }
     ensures { Leaves M.method (text_of text.now n) (lent pattern.entry) mark.at.0 budget list.old scratch.old result list.new scratch.new }
 {
     if n < pattern.m {
@@ -116,7 +116,7 @@ pub fn accepted(
     list: &mut [u32],
     scratch: &mut [u64],
 ) -> Answer
-    requires { Allowed method (text_of text.now n) (lent pattern.entry) mark.at.0 scratch.old }
+    requires { Allowed method (text_of text.now n) (lent pattern) mark.at.0 scratch.old }
     ensures { Leaves method (text_of text.now n) (lent pattern.entry) mark.at.0 budget list.old scratch.old result list.new scratch.new }
 {
     match method {
