@@ -26,10 +26,7 @@ use Rattle.rules.proofs.Pattern.{agrees_iff}
 use Rattle.rules.proofs.Occurrence.{matches_at, to_matches}
 use Rattle.rules.proofs.Plain.{in_row_lem, to_in_row, fixed_in_row_lem, to_fixed_in_row, mask_bit_is, row_bit_is}
 
--- a test that answers true, or false, just if something holds
-pub granted : {A : Type 0} → A → (true ≡ true) ↔ A
-granted a = (λ e. a, λ b. refl)
-
+-- a test answers false where something does not hold
 pub refused : {A : Type 0} → (A → ⊥) → (false ≡ true) ↔ A
 refused h = (λ e. let z : ◌≡◌ {A = ℕ} 0 1 = cc in absurd (omega arith), λ a. absurd (h a))
 

@@ -2,14 +2,14 @@
 -- Assumes nothing.
 use Prim.Native.Nat.{ℕ, ◌+◌, ◌-◌, ◌*◌, ◌/◌, ◌%◌, ◌≤◌, ◌<◌, min}
 use mathlib.Core.Path.{◌≡◌, refl, sym, ap, ap₂, ◌∙◌}
-use mathlib.Core.Logic.{◌≢◌, ◌⊎◌, inl, inr}
+use mathlib.Core.Logic.{◌⊎◌, inl, inr}
 use mathlib.Core.Bool.{Bool, true, false, ◌&&◌, cond}
 use mathlib.Core.List.{List}
 use native.Mathlib.Omega.{arith}
 use lib.Bits.{bit_and}
 use lib.Dec.{leb, ltb}
-use lib.ListN.{length, get_or, set, drop, length-set, length-drop}
-use lib.Seq.{get_or-set_same, get_or-set_other, get_or-drop, ext_get_or}
+use lib.ListN.{length, get_or, drop, length-drop}
+use lib.Seq.{get_or-drop, ext_get_or}
 use borrow.Author.Tests.{leb-true, le-leb, lt-leb, ltb-true, ltb-false}
 use Rattle.bits.specs.Packed.{bit_of, bit_at, bits_at}
 use Rattle.bits.proofs.Weight.{weight_zero, weight_and}
@@ -23,57 +23,6 @@ use Rattle.plain.specs.RowCells.{shifted_bit, Filled}
 use Rattle.rules.proofs.Ranges.{same_test, eq_or_below}
 use Rattle.rules.proofs.Pattern.{fixed_bit}
 use Rattle.rules.proofs.Plain.{mask_bit_is, row_bit_is}
-
--- no row of the cells k
-pub filled_none : (k prev x prev_mask mask : ℕ) (before : List ℕ) → Filled k 0 prev x prev_mask mask before before
-filled_none k prev x prev_mask mask before =
-    record {
-      row_is = λ y j l h. absurd (omega arith);
-      mask_is = λ y j l h. absurd (omega arith);
-      size = refl;
-      front = λ y h. refl;
-      rest = λ y h. refl;
-    }
-
--- one row more
-module _ (k prev x prev_mask mask : ℕ) (before cells : List ℕ) (i r q : ℕ) (room : 16 * k + 16 ≤ length before) (below : i < 8) where
-  after : List ℕ
-  after = set (set cells (16 * k + i) r) (16 * k + 8 + i) q
-
-  other : (y : ℕ) → y ≢ 16 * k + i → y ≢ 16 * k + 8 + i → get_or after y 0 ≡ get_or cells y 0
-  unfolding after
-  other y n u = get_or-set_other (set cells (16 * k + i) r) (16 * k + 8 + i) y q 0 u ∙ get_or-set_other cells (16 * k + i) y r 0 n
-
-  pub filled_more : Filled k i prev x prev_mask mask before cells
-      → ((j : ℕ) → j < 64 → bit_of 64 r j ≡ shifted_bit prev x i j)
-      → ((j : ℕ) → j < 64 → bit_of 64 q j ≡ shifted_bit prev_mask mask i j)
-      → Filled k (i + 1) prev x prev_mask mask before (set (set cells (16 * k + i) r) (16 * k + 8 + i) q)
-  unfolding after
-  filled_more f row_bits mask_bits =
-      record {
-        row_is = λ y j l h. row y j h (eq_or_below {a = y} {b = i} (omega arith));
-        mask_is = λ y j l h. masks y j h (eq_or_below {a = y} {b = i} (omega arith));
-        size = length-set (set cells (16 * k + i) r) (16 * k + 8 + i) q ∙ length-set cells (16 * k + i) r ∙ f.size;
-        front = λ y h. other y (omega arith) (omega arith) ∙ f.front y h;
-        rest = λ y h. other y (omega arith) (omega arith) ∙ f.rest y h;
-      }
-    where
-      new_row : get_or after (16 * k + i) 0 ≡ r
-      new_row =
-          get_or-set_other (set cells (16 * k + i) r) (16 * k + 8 + i) (16 * k + i) q 0 (omega arith)
-          ∙ get_or-set_same cells (16 * k + i) r 0 (omega (arith, f.size))
-
-      new_mask : get_or after (16 * k + 8 + i) 0 ≡ q
-      new_mask =
-          get_or-set_same (set cells (16 * k + i) r) (16 * k + 8 + i) q 0 (rw (length-set cells (16 * k + i) r) (omega (arith, f.size)))
-
-      row : (y j : ℕ) → j < 64 → (y ≡ i) ⊎ (y < i) → bit_of 64 (get_or after (16 * k + y) 0) j ≡ shifted_bit prev x y j
-      row y j h (inl e) = rw (e, new_row) (row_bits j h)
-      row y j h (inr l) = rw (other (16 * k + y) (omega arith) (omega arith)) (f.row_is y j l h)
-
-      masks : (y j : ℕ) → j < 64 → (y ≡ i) ⊎ (y < i) → bit_of 64 (get_or after (16 * k + 8 + y) 0) j ≡ shifted_bit prev_mask mask y j
-      masks y j h (inl e) = rw (e, new_mask) (mask_bits j h)
-      masks y j h (inr l) = rw (other (16 * k + 8 + y) (omega arith) (omega arith)) (f.mask_is y j l h)
 
 -- rows of any shift: bits at the same index of the pattern are the same
 module _ (w : Pattern) (i h j i' h' j' : ℕ) (same : 8 * h + j + i' ≡ 8 * h' + j' + i) where

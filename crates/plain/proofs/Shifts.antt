@@ -6,16 +6,13 @@ use mathlib.Core.Bool.{Bool, true, false, cond}
 use native.Mathlib.Omega.{arith}
 use lib.Bits.{bit_or}
 use lib.Dec.{ltb}
-use borrow.Author.Tests.{ltb-true, ltb-false, lt-ltb, le-ltb}
+use borrow.Author.Tests.{ltb-true, ltb-false, lt-ltb}
 use Rattle.bits.specs.Packed.{weight, bit_of}
-use Rattle.bits.proofs.Weight.{weight_out, weight_shr, shl_low, shl_high, weight_zero, weight_ones, weight_or}
+use Rattle.bits.proofs.Weight.{weight_out, weight_shr, shl_low, shl_high, weight_ones, weight_or}
 use Rattle.plain.specs.RowCells.{shifted_bit}
 
 -- ones before bit m of the bits from bit a on
 module _ (a m : ℕ) where
-  pub ones_none : m ≤ a → (j : ℕ) → j < 64 → bit_of 64 0 j ≡ cond (ltb (a + j) m) 1 0
-  ones_none h j l = weight_zero (63 - j) ∙ rw (le-ltb (a + j) m (omega arith))
-
   pub ones_all : a + 64 ≤ m → (j : ℕ) → j < 64 → bit_of 64 18446744073709551615 j ≡ cond (ltb (a + j) m) 1 0
   ones_all h j l = weight_ones 64 (63 - j) (omega arith) ∙ rw (lt-ltb (a + j) m (omega arith))
 

@@ -1,5 +1,5 @@
 -- The plain method's rows by cells of eight bytes: what one cell of a row says of a place, and how the cells are made.
-use Rattle.std.specs.Prelude.{ℕ, ◌+◌, ◌-◌, ◌*◌, ◌/◌, ◌%◌, ◌≤◌, ◌<◌, ◌≡◌, Bool, cond, List, ltb, eqb, length, get_or}
+use Rattle.std.specs.Prelude.{ℕ, ◌+◌, ◌-◌, ◌*◌, ◌/◌, ◌%◌, ◌^◌, ◌≤◌, ◌<◌, ◌≡◌, Bool, true, false, cond, List, ltb, eqb, length, get_or}
 use Rattle.std.specs.Int.Bits.{bit_and}
 use Rattle.bits.specs.Packed.{bit_of, bits_at}
 
@@ -19,3 +19,22 @@ pub record Filled (k rows prev x prev_mask mask : ℕ) (before cells : List ℕ)
   pub size : length cells ≡ length before
   pub front : (y : ℕ) → y < 16 * k → get_or cells y 0 ≡ get_or before y 0
   pub rest : (y : ℕ) → 16 * k + 16 ≤ y → get_or cells y 0 ≡ get_or before y 0
+
+-- the first cell of row i, laid on eight bytes of the text, agrees
+abbrev pub first_fits : ℕ → List ℕ → ℕ → Bool
+first_fits bytes cells i = eqb (bit_and bytes (get_or cells (8 + i) 0)) (get_or cells i 0)
+
+-- no number from a on and before b passes a test
+abbrev pub NonePass : (ℕ → Bool) → ℕ → ℕ → Type 0
+NonePass f a b = (i : ℕ) → a ≤ i → i < b → f i ≡ false
+
+-- r is the first of them that does
+pub record IsFirst (f : ℕ → Bool) (a b r : ℕ) : Type 0 where
+  pub from : a ≤ r
+  pub before : r < b
+  pub passes : f r ≡ true
+  pub none_sooner : NonePass f a r
+
+-- Each cell has 64 bits, as its type says. A caller whose cells lie in a struct knows it only by what it calls.
+abbrev pub Small : List ℕ → Type 0
+Small cells = (x : ℕ) → get_or cells x 0 < 2 ^ 64

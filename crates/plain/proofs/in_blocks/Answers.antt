@@ -1,40 +1,32 @@
-use Prim.Native.Nat.{◌*◌}
-use native.Mathlib.Omega.{arith}
+use Rattle.std.proofs.Common.{◌*◌, arith}
 use Rattle.plain.proofs.Between.{between_none, between_join}
 use Rattle.plain.proofs.RowCells.{block_passed, block_fits}
 use Rattle.plain.proofs.in_blocks.Goals as goal
 
-pub loop-b-init : goal.loop-b-init
-loop-b-init c = (omega arith, omega arith, between_none _ _)
+pub loop-byte-init : goal.loop-byte-init
+loop-byte-init c = between_none _ _
 
-pub returns-then-r-lt8 : goal.returns-then-r-lt8
-returns-then-r-lt8 c =
+pub returns-in-Some : goal.returns-in-Some
+returns-in-Some c =
     let a = c.args in
-    let l = c.loop-b in
-    let row = c.first_row-r.ensures in
+    let l = c.loop-byte in
+    let row = c.in-Some.ensures in
     let load = c.word_at_byte.ensures in
-    let there = c.place_at.ensures in (
-      omega arith,
-      omega (arith, c.bytes_for-end.ensures, c.loop-b-test.true),
-      between_join _ _ (8 * l.b.0) _ l.invariant.2 (λ p g u.
-          block_passed a.text.now a.cells.now l.b.0 0 _ _ row.1 load row.2 p (omega arith) (omega arith)),
-      λ u. rw there (block_fits a.text.now a.cells.now l.b.0 _ _ c.if-r-lt8.true load (row.3 c.if-r-lt8.true)),
-    )
+    let there = c.place_at.ensures in
+    record {
+      from = omega arith;
+      before = omega arith;
+      passes = rw there (block_fits a.text.now a.cells.now l.byte _ _ row.before load row.passes);
+      none_sooner = between_join _ _ (8 * l.byte) _ l.invariant
+          (λ p g u. block_passed a.text.now a.cells.now l.byte 0 _ _ (omega arith) load row.none_sooner p (omega arith) (omega arith));
+    }
 
-pub loop-b-preserved : goal.loop-b-preserved
-loop-b-preserved c =
+pub loop-byte-preserved : goal.loop-byte-preserved
+loop-byte-preserved c =
     let a = c.args in
-    let l = c.loop-b in
-    let row = c.first_row-r.ensures in (
-      omega arith,
-      omega arith,
-      between_join _ _ (8 * l.b.0) _ l.invariant.2 (λ p g u.
-          block_passed a.text.now a.cells.now l.b.0 0 _ _ row.1 c.word_at_byte.ensures row.2 p (omega arith) (omega arith)),
-    )
+    let l = c.loop-byte in
+    between_join _ _ (8 * l.byte) _ l.invariant
+    (λ p g u. block_passed a.text.now a.cells.now l.byte 0 8 _ (omega arith) c.word_at_byte.ensures (rw c.in_default.is at c.first_row.ensures) p (omega arith) (omega arith))
 
 pub returns : goal.returns
-returns c =
-    let l = c.loop-b in
-    let bytes = c.bytes_for-end.ensures in
-    let there = c.place.ensures in
-    (omega arith, omega arith, λ p g u. l.invariant.2 p g (omega arith), λ u. absurd (omega arith))
+returns c = λ p g u. c.loop-byte.invariant p g (omega arith)

@@ -2,13 +2,9 @@
 -- Assumes nothing.
 use mathlib.Core.Path.{◌≡◌}
 use mathlib.Core.Bool.{true}
-use Prim.Native.Nat.{◌-◌, ◌≤◌}
 use Rattle.plain.specs.RowCells.{cell_fits}
 use Rattle.plain.proofs.Between.{Between}
 use Rattle.plain.proofs.row_fits.Given as goal
 
 abbrev pub invariant-loop-k : goal.invariant-loop-k
-invariant-loop-k l = (l.from ≤ l.k) × Between (λ y. cell_fits l.text l.cells l.s.0 y ≡ true) l.from l.k
-
-abbrev pub decreases-loop-k : goal.decreases-loop-k
-decreases-loop-k l = l.chunks - l.k
+invariant-loop-k l = Between (λ y. cell_fits l.text l.cells l.s.0 y ≡ true) l.from l.k
