@@ -121,16 +121,6 @@ module _ (w : Pattern) (before cells : List ℕ) (k v : ℕ) (f : Filled w befor
   unfolding next
   filled_more = record { heads = heads; links = links; size = length-set (set cells (256 + k) (get_or cells v 0)) v (k + 1) ∙ first_size; rest = rest }
 
--- the same, told of the cells as they now are
-pub filled_here : {w : Pattern} {before : List ℕ} {k : ℕ} {cells : List ℕ} → Filled w before k cells → Filled w cells k cells
-filled_here f = record { heads = f.heads; links = f.links; size = refl; rest = refl }
-
--- more indices entered after some
-pub filled_then : {w : Pattern} {before : List ℕ} {k : ℕ} {cells : List ℕ} {k' : ℕ} {cells' : List ℕ} → Filled w before k cells → Filled w cells k' cells'
-    → Filled w before k' cells'
-filled_then f g =
-    record { heads = g.heads; links = g.links; size = g.size ∙ f.size; rest = g.rest ∙ f.rest }
-
 -- all indices are entered, from empty chains on
 pub filled_all : (w : Pattern) (before empty cells : List ℕ) (k : ℕ) → AllFixed w → get_or empty (255 + w.count) 0 ≡ 0 → length empty ≡ length before
     → drop (256 + w.count) empty ≡ drop (256 + w.count) before → Filled w empty k cells → k ≡ chained w.count → Prepared Skip w before cells

@@ -11,20 +11,16 @@ use borrow.Author.Tests.{leb-true, le-leb, ltb-true, lt-ltb, le-ltb}
 use lib.Bits.{bit_and}
 use lib.Count.{count_trailing_zeros}
 use lib.Dec.{leb, ltb}
-use lib.ListN.{length, get_or, set, length-set}
-use lib.Seq.{get_or-set_same, drop-set-lt}
 use Rattle.bits.specs.Packed.{weight}
 use Rattle.bits.proofs.Weight.{weight_lt, weight_out, weight_and, weight_shr, weight_shl, weight_shl_low, weight_mod, weight_zero, weight_ones}
-use Rattle.rules.specs.declared.Method.TheVariants.{Skip}
 use Rattle.rules.specs.Pattern.{Pattern}
-use Rattle.matcher.specs.Lined.{meets_last, Lined, Words, Only}
-use Rattle.matcher.specs.Tables.{shows_byte, Prepared}
+use Rattle.matcher.specs.Lined.{meets_last, Lined, Words}
+use Rattle.matcher.specs.Tables.{shows_byte}
 use Rattle.skip_tables.specs.SkipChains.{last_shown, shown_by, Flags, Flagging}
 use Rattle.rules.proofs.Ranges.{and_left, and_right, and_both, same_test, not_true_false, every_at, to_every}
 use Rattle.rules.proofs.Hash.{meets_at, to_meets}
 use Rattle.matcher.proofs.SingleBits.{all_ones, trailing_below, trailing_at, trailing_lt, lowest_gone, others_stay}
 use Rattle.matcher.proofs.Lined.{one_true, zero_false, last_eight, lined_join}
-use Rattle.matcher.proofs.LinedCells.{only_rest, words_same}
 use Rattle.skip_tables.proofs.SkipBelow.{below_eq}
 
 -- a flag before the cut is that of one of the block's moves, whose index the pattern has
@@ -327,24 +323,3 @@ module _ (w : Pattern) (B : ℕ) where
 -- The words of blocks below k are made.
 abbrev pub WordsTo : Pattern → ℕ → List ℕ → Type 0
 WordsTo w k cells = (i : ℕ) → i < k → Words w (57 * i) 4 (22 * i + 6) cells
-
-module _ (w : Pattern) (before : List ℕ) (room : 256 + w.count ≤ length before) where
-  -- one block more
-  pub words_more : (k : ℕ) (cells cells' : List ℕ) → WordsTo w k cells → Words w (57 * k) 4 (22 * k + 6) cells' → Only (22 * k) (22 * k + 22) cells cells'
-      → WordsTo w (k + 1) cells'
-  words_more k cells cells' made new only i l = go (dec_le k i)
-    where
-      go : Dec (k ≤ i) → Words w (57 * i) 4 (22 * i + 6) cells'
-      go (yes h) = let here : i ≡ k = omega arith in rw here new
-      go (no h) = words_same w (57 * i) 4 (22 * i + 6) cells cells' (made i (omega arith)) (λ j a b. only.low j (omega arith))
-
-  -- all blocks are made, and the cell after them tells of words
-  pub words_all : (k : ℕ) (cells : List ℕ) → WordsTo w k cells → w.count < 57 * k + 8 → Only 0 (255 + w.count) (set before (255 + w.count) 1) cells
-      → Prepared Skip w before cells
-  words_all k cells made all only =
-      let kind : get_or cells (255 + w.count) 0 ≡ 1 = only.high (255 + w.count) (omega arith) ∙ get_or-set_same before (255 + w.count) 1 0 (omega arith) in
-      record {
-        tables = record { chains = λ z. absurd (omega arith); words = λ _. record { words_are = λ i h. made i (omega arith) } };
-        size = only.size ∙ length-set before (255 + w.count) 1;
-        rest = only_rest (256 + w.count) only (omega arith) ∙ drop-set-lt (256 + w.count) before (255 + w.count) 1 (omega arith);
-      }

@@ -3,8 +3,8 @@
 use Rattle.std.specs.Prelude.{ℕ, ◌+◌, ◌-◌, ◌*◌, ◌≤◌, ◌<◌, ◌≡◌, Bool, false, ◌&&◌, cond, List, leb, ltb, length, get_or, drop}
 use Rattle.bits.specs.Packed.{bits_at, weight}
 use Rattle.rules.specs.Pattern.{Pattern}
-use Rattle.matcher.specs.Tables.{last_below, shows_byte, in_chain, chained}
-use Rattle.skip_tables.specs.declared.Links.{Links}
+use Rattle.matcher.specs.Tables.{last_below, shows_byte, in_chain, chained, ChainTables, WordTables}
+use Rattle.std.proofs.Props.{props}
 
 -- the indices below k are entered, and the cells after the chains are as they were
 pub record Filled (w : Pattern) (before : List ℕ) (k : ℕ) (cells : List ℕ) : Type 0 where
@@ -16,6 +16,10 @@ pub record Filled (w : Pattern) (before : List ℕ) (k : ℕ) (cells : List ℕ)
 -- one more than the last index below k that shows B, or 0
 abbrev pub last_shown : Pattern → ℕ → ℕ → ℕ
 last_shown w B k = last_below (shows_byte w B) k
+
+-- a link that, once its index is one of those chained, is one of B's chain
+abbrev pub OnChain : Pattern → ℕ → ℕ → Type 0
+OnChain w B j = j ≤ chained w.count → last_below (in_chain w B) j ≡ j
 
 -- The index of the move d, m − 8 − d, is one of the pattern's, lies below k, and shows B.
 unfoldable pub shown_by : Pattern → ℕ → ℕ → ℕ → Bool
@@ -33,13 +37,13 @@ pub record Flagging (w : Pattern) (B k c left : ℕ) : Type 0 where
   pub none : (d : ℕ) → d < 57 * c → shown_by w B k d ≡ false
   pub flags : Flags w B k (57 * c) left
 
--- A block from which such a walk goes on: its flags, or none where no index that is still to come shows B.
-pub record NextBlock (w : Pattern) (B k c left : ℕ) : Type 0 where
-  pub flagging : (left ≡ 0 → ⊥) → Flagging w B k c left
-  pub none : left ≡ 0 → k + 7 ≤ w.count → 0 ≡ last_shown w B k
+-- after a link the flags are those of the indices below it
+abbrev pub FlagsAfter : Pattern → ℕ → ℕ → ℕ → ℕ → Type 0
+FlagsAfter w B first c left = 0 < first → Flagging w B (first - 1) c left
 
--- A walk has come to a link. Along a chain it is one of the chain, once its index is one of those chained; by words, the
--- flags left are those of the indices below it.
-pub record Walking (w : Pattern) (B kind : ℕ) (l : Links) : Type 0 where
-  pub chain : kind ≡ 0 → l.first ≤ chained w.count → last_below (in_chain w B) l.first ≡ l.first
-  pub words : (kind ≡ 0 → ⊥) → 0 < l.first → Flagging w B (l.first - 1) l.block l.left
+-- What a kind of tables holds has one proof at most, so that a value of the code may carry it.
+pub chain_tables_prop : (w : Pattern) (cells : List ℕ) → IsProp (ChainTables w cells)
+chain_tables_prop w cells = Prim.hlevel props
+
+pub word_tables_prop : (w : Pattern) (cells : List ℕ) → IsProp (WordTables w cells)
+word_tables_prop w cells = Prim.hlevel props
