@@ -4,7 +4,6 @@ ghost use Rattle.capi.specs.EightBits.{eight_told};
 
 use crate::{ANSWER_CELLS_MISSING, cells};
 use bits::Place;
-use eight::Eight;
 
 // The eight bits from a bit number on, of the first n bits, as a byte with the first bit leftmost, and how many of them lie
 // before n; the others are 0.
@@ -17,7 +16,7 @@ pub extern "C" fn mitongory_eight_bits(bytes: &[u8], n: u64, place: u32, answer:
     }
     let found = eight::eight_bits(bytes, n, Place(place));
     match found {
-        Eight::Refused(why) => why.number(),
-        Eight::Accepted(s) => cells::two(answer, s.byte as u64, s.count as u64),
+        Err(why) => why.number(),
+        Ok(s) => cells::two(answer, s.byte as u64, s.count as u64),
     }
 }

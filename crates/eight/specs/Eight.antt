@@ -1,9 +1,8 @@
 -- Eight bits from a bit number, by themselves, with how many of them lie before n, and refusals 1 and 2 (document 01,
 -- "Recording, word, place" and "When the panel says no", as A8 of document 02 changes them).
-use Rattle.std.specs.Prelude.{ℕ, zero, suc, ◌+◌, ◌-◌, ◌*◌, ◌^◌, min, cond, length, ltb}
+use Rattle.std.specs.Prelude.{ℕ, zero, suc, ◌+◌, ◌-◌, ◌*◌, ◌^◌, min, cond, length, ltb, Result, Ok, Err}
 use Rattle.bits.specs.Packed.{Packed, bytes_for, bit_at}
-use Rattle.eight.specs.declared.Eight.{Eight}
-use Rattle.eight.specs.declared.Eight.TheVariants.{Accepted, Refused}
+use Rattle.eight.specs.declared.Shown.{Shown}
 use Rattle.eight.specs.declared.Refusal.{Refusal}
 use Rattle.eight.specs.declared.Refusal.TheVariants.{TextTooLong, TextBytesMissing}
 
@@ -43,6 +42,6 @@ number_of TextTooLong = 1
 number_of TextBytesMissing = 2
 
 -- what the papers say for each answer of the code
-abbrev pub verdict_of : Eight → Verdict
-verdict_of (Accepted s) = shown s.byte s.count
-verdict_of (Refused r) = number (number_of r)
+abbrev pub verdict_of : Result Shown Refusal → Verdict
+verdict_of (Ok s) = shown s.byte s.count
+verdict_of (Err r) = number (number_of r)

@@ -9,7 +9,6 @@ use draws::draw::{choose, draw};
 use draws::number::{ceiling, least_of, minus, plus, small};
 use draws::packed;
 use draws::packed::{BYTES, FIXED, TEXT, TEXT_BIT};
-use eight::Eight;
 use search::hash_value::HashAnswer;
 use search::scratch_cells::CellsAnswer;
 use search::{hash_value, scratch_cells};
@@ -58,11 +57,11 @@ fn eight_from(n: usize, a: usize, p: usize, s: &mut [u8; BYTES]) -> bool {
     });
     let got = eight::eight_bits(packed::part(s, TEXT, a), n as u64, Place(small(p)));
     match got {
-        Eight::Accepted(e) => {
+        Ok(e) => {
             packed::put8(s, 0, e.byte);
             return (why == 0) & eight_are(s, n, p, e.count);
         }
-        Eight::Refused(r) => {
+        Err(r) => {
             return r.number() == small(why);
         }
     }

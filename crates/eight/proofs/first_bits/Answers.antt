@@ -7,5 +7,5 @@ pub returns : goal.returns
 returns c =
     let a = c.args in
     rw
-    (c.byte-b.ensures, c.byte-e.ensures, c.offset.ensures)
+    (c.from-left.ensures, c.from-right.ensures, c.byte-b.ensures, c.byte-e.ensures, c.offset.ensures)
     (moved_first a.bytes.now a.p.0 a.count c.requires.0 c.requires.1 (λ i. (c.type_inv.bytes i).fits))

@@ -10,14 +10,14 @@ pub returns-then-answer-lt2 : goal.returns-then-answer-lt2
 unfolding eight_told
 returns-then-answer-lt2 c = none_told (λ v. v) _ _ _ (omega arith) refl
 
-pub returns-in-Accepted : goal.returns-in-Accepted
+pub returns-in-Ok : goal.returns-in-Ok
 unfolding eight_told
-returns-in-Accepted c =
-    let told = rw c.in-Accepted.is at c.eight_bits-found.ensures in
+returns-in-Ok c =
+    let told = rw c.in-Ok.is at c.eight_bits-found.ensures in
     number_told (λ v. v) _ _ _ (omega arith) (ap eight_tells told) c.two.ensures
 
-pub returns-in-Refused : goal.returns-in-Refused
+pub returns-in-Err : goal.returns-in-Err
 unfolding eight_told
-returns-in-Refused c =
-    let told = rw c.in-Refused.is at c.eight_bits-found.ensures in
+returns-in-Err c =
+    let told = rw c.in-Err.is at c.eight_bits-found.ensures in
     refusal_told (λ v. v) _ _ _ (omega arith) (ap eight_tells told) c.number.ensures
