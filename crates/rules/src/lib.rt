@@ -7,7 +7,7 @@ ghost use Rattle.std.specs.Prelude.{◌≡◌};
 ghost use Rattle.rules.specs.Scratch.{scratch_cells};
 
 // The five ways to the next mark.
-#[derive(Clone, Copy)]
+#[derive(Clone, Copy, PartialEq, Eq, Debug)]
 pub enum Method {
     Plain,
     Hash,
@@ -21,7 +21,7 @@ impl Method {
     pub fn scratch_cells(self, m: u32) -> u64
         ensures { result ≡ scratch_cells self m }
     {
-        let k = m as u64;
+        let k = u64::from(m);
         match self {
             Method::Plain => 16 * bits::bytes_for(k + 7),
             Method::Hash => 512,
