@@ -105,9 +105,7 @@ impl Mark {
             fixed,
             m: m as u32,
         };
-        Ok(call::accepted(
-            self, method, text, n as u32, pattern, budget, list, scratch,
-        ))
+        Ok(call::accepted(self, method, text, n as u32, pattern, budget, list, scratch))
     }
 
     // One step by the rule of the method M: the advanced mark beside how many places it wrote.
