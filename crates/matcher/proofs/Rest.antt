@@ -1,7 +1,7 @@
 -- Steps on what is left of a list are steps on the list: the cells before it stay, and what is written there is written to the
 -- list.
 -- Assumes nothing.
-use Rattle.std.proofs.Common.{◌≡◌, refl, sym, ap, ◌∙◌, ℕ, ◌+◌, ◌-◌, ◌≤◌, Bool, List, [], ◌++◌, length, take, drop, min, arith}
+use Rattle.std.proofs.Common.{◌≡◌, sym, ap, ◌∙◌, ℕ, ◌+◌, ◌-◌, ◌≤◌, Bool, List, [], ◌++◌, length, take, drop, arith}
 use Rattle.std.proofs.lemmas.List.{length-drop, length-take, drop-drop, drop_all, take_all, append-nil, append_assoc}
 use Rattle.std.proofs.lemmas.List.Edits.{sets, sets-eq}
 use borrow.Rule.Slice.PartMut.{mid_of, put_mid}

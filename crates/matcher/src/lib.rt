@@ -15,5 +15,5 @@ ghost use Rattle.std.specs.Prelude.{◌≡◌, min};
 pub fn cut(mark: u32, places: u32) -> u32
     ensures { result ≡ min mark places }
 {
-    if mark < places { mark } else { places }
+    mark.min(places)
 }

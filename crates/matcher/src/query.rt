@@ -60,9 +60,8 @@ impl<'a> Query<'a> {
         let Pattern { bytes, fixed, m } = self.pattern;
         let at = s.0;
         let last = bits::bytes_for(m as u64) as usize - 8;
-        let mut b = 0usize;
-        while b < last {
-            let here = ByteNo(b);
+        for load in 0..last.div_ceil(8) {
+            let here = ByteNo(8 * load);
             let x = load::word_inside(self.text, Place(at + here.place().0));
             if !same_where(
                 x,
@@ -72,7 +71,6 @@ impl<'a> Query<'a> {
             ) {
                 return false;
             }
-            b += 8;
         }
         let here = ByteNo(last);
         let from = here.place().0;
@@ -100,14 +98,12 @@ impl<'a> Query<'a> {
             );
         }
         let at = s.0;
-        let mut i = 0u32;
-        while i + 64 < m {
-            let p = Place(i);
-            let x = load::word_at(self.text, Place(at + i));
+        for load in 0..(m - 1) / 64 {
+            let p = Place(64 * load);
+            let x = load::word_at(self.text, Place(at + p.0));
             if !same_where(x, load::word_at(bytes, p), load::word_at(fixed, p), 64) {
                 return false;
             }
-            i += 64;
         }
         let last = Place(m - 64);
         let x = load::word_at(self.text, Place(at + (m - 64)));

@@ -10,22 +10,20 @@ ghost use Rattle.matcher.specs.Asked.{lent};
 use crate::query::Pattern;
 use bits::{Place, load};
 
-const ALL: u64 = 18446744073709551615;
-
 // Whether no bit of the pattern is wild.
 pub fn all_fixed(pattern: &Pattern) -> bool
     requires { (0 < pattern.now.m) × (pattern.now.m ≤ 2048) }
     ensures { (result ≡ true) ↔ AllFixed (lent pattern.now) }
 {
     let Pattern { fixed, m, .. } = *pattern;
-    let mut o = 0u32;
-    while o + 64 < m {
-        if load::word_at_byte(fixed, Place(o).byte()) != ALL {
+    let before = (m - 1) / 64;
+    for load in 0..before {
+        if load::word_at_byte(fixed, Place(64 * load).byte()) != u64::MAX {
             return false;
         }
-        o += 64;
     }
-    load::word_near_end(fixed, Place(o).byte()) >> (64 - (m - o)) == ALL >> (64 - (m - o))
+    let rest = 64 - (m - 64 * before);
+    load::word_near_end(fixed, Place(64 * before).byte()) >> rest == u64::MAX >> rest
 }
 
 // The 64 bits of a run that end d bits before its bit m; where it has no bit, a 0.
@@ -45,10 +43,8 @@ fn pair_up(cells: &mut [u64], from: usize, to: usize, size: usize, k: u32)
     requires { (k < 64) × (size ≡ 2 ^ k) × (from + size ≤ to) × (to + size * size ≤ length cells.old) }
     ensures { Paired k from to cells.old cells.new }
 {
-    let mut x = 0usize;
-    while x < size * size {
+    for x in 0..size * size {
         cells[to + x] = cells[from + (x & (size - 1))] & (cells[from + (x >> k)] >> k);
-        x += 1;
     }
 }
 
@@ -59,8 +55,8 @@ pub fn line_up(pattern: &Pattern, d: u32, cells: &mut [u64], at: usize)
 {
     let p = ending(pattern.bytes, pattern.m, d);
     let f = ending(pattern.fixed, pattern.m, d);
-    cells[at] = (p & f) ^ ALL;
-    cells[at + 1] = (f & (p ^ ALL)) ^ ALL;
+    cells[at] = (p & f) ^ u64::MAX;
+    cells[at + 1] = (f & (p ^ u64::MAX)) ^ u64::MAX;
     pair_up(cells, at, at + 2, 2, 1);
     pair_up(cells, at + 2, at + 6, 4, 2);
 }

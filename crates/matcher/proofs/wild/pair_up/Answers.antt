@@ -19,7 +19,7 @@ first_small c =
     first_lt a.k a.from a.to a.size c.loop-x.x a.cells.now c.loop-x.cells c.requires.1 c.loop-x-test.true
 
 pub loop-x-init : goal.loop-x-init
-loop-x-init c = (omega arith, only_none, λ w d words y l. absurd (omega arith))
+loop-x-init c = (only_none, λ w d words y l. absurd (omega arith))
 
 pub overflow_sub-cells : goal.overflow_sub-cells
 overflow_sub-cells c = omega (arith, last_small c)
@@ -31,7 +31,7 @@ pub offset_bounds-cells-from : goal.offset_bounds-cells-from
 offset_bounds-cells-from c = omega (arith, last_small c)
 
 pub bounds-cells-from : goal.bounds-cells-from
-bounds-cells-from c = omega (arith, last_small (goal.at.bounds-cells-from c).In-loop-x, c.loop-x.invariant.1.size)
+bounds-cells-from c = omega (arith, last_small (goal.at.bounds-cells-from c).In-loop-x, c.loop-x.invariant.0.size)
 
 pub overflow_add-cells-in-loop-x : goal.overflow_add-cells-in-loop-x
 overflow_add-cells-in-loop-x c = omega (arith, first_small (goal.at.overflow_add-cells-in-loop-x c).In-loop-x)
@@ -40,28 +40,27 @@ pub offset_bounds-cells-from-in-loop-x : goal.offset_bounds-cells-from-in-loop-x
 offset_bounds-cells-from-in-loop-x c = omega (arith, first_small (goal.at.offset_bounds-cells-from-in-loop-x c).In-loop-x)
 
 pub bounds-cells-from-in-loop-x : goal.bounds-cells-from-in-loop-x
-bounds-cells-from-in-loop-x c = omega (arith, first_small (goal.at.bounds-cells-from-in-loop-x c).In-loop-x, c.loop-x.invariant.1.size)
+bounds-cells-from-in-loop-x c = omega (arith, first_small (goal.at.bounds-cells-from-in-loop-x c).In-loop-x, c.loop-x.invariant.0.size)
 
 pub bounds-cells-to : goal.bounds-cells-to
-bounds-cells-to c = omega (arith, c.loop-x.invariant.1.size)
+bounds-cells-to c = omega (arith, c.loop-x.invariant.0.size)
 
 pub loop-x-preserved : goal.loop-x-preserved
 loop-x-preserved c =
     let a = c.args in
     let l = c.loop-x in
     let all : 2 ^ a.k * 2 ^ a.k ≡ a.size * a.size = rw c.requires.1 in (
-      omega arith,
-      only_set (a.to + l.x) _ l.invariant.1 (omega arith) (omega arith),
-      pairs_more a.k a.from a.to a.size l.x a.cells.now l.cells c.requires.1 c.loop-x-test.true l.invariant.2 c.requires.2 l.invariant.1
-          (omega (arith, l.invariant.1.size)),
+      only_set (a.to + l.x) _ l.invariant.0 (omega arith) (omega arith),
+      pairs_more a.k a.from a.to a.size l.x a.cells.now l.cells c.requires.1 c.loop-x-test.true l.invariant.1 c.requires.2 l.invariant.0
+          (omega (arith, l.invariant.0.size)),
     )
 
 pub shape_of-cells : goal.shape_of-cells
-shape_of-cells c = c.loop-x.invariant.1.size
+shape_of-cells c = c.loop-x.invariant.0.size
 
 pub returns : goal.returns
 returns c =
     let a = c.args in
     let l = c.loop-x in
     let all : 2 ^ (a.k + a.k) ≡ a.size * a.size = pow-add 2 a.k a.k ∙ rw c.requires.1 in
-    record { words = λ w d words x h. l.invariant.2 w d words x (omega arith); only = l.invariant.1 }
+    record { words = λ w d words x h. l.invariant.1 w d words x (omega arith); only = l.invariant.0 }

@@ -11,8 +11,8 @@ bytes_for-requires c = omega arith
 pub overflow_sub-last : goal.overflow_sub-last
 overflow_sub-last c = omega arith
 
-pub loop-b-init : goal.loop-b-init
-loop-b-init c = (none_passed _ _ _ _ _ (omega arith), omega arith)
+pub loop-load-init : goal.loop-load-init
+loop-load-init c = (none_passed _ _ _ _ _ (omega arith), omega arith)
 
 pub place-requires : goal.place-requires
 place-requires c = omega arith
@@ -26,30 +26,24 @@ word_inside-x-requires c = omega arith
 pub eight_bytes-requires : goal.eight_bytes-requires
 eight_bytes-requires c = omega arith
 
-pub eight_bytes-requires-in-loop-b : goal.eight_bytes-requires-in-loop-b
-eight_bytes-requires-in-loop-b c = omega arith
+pub eight_bytes-requires-in-loop-load : goal.eight_bytes-requires-in-loop-load
+eight_bytes-requires-in-loop-load c = omega arith
 
 pub same_where-requires : goal.same_where-requires
 same_where-requires c = omega arith
 
 pub returns-then-not-same_where : goal.returns-then-not-same_where
 returns-then-not-same_where c =
-    next_differs _ _ _ _ _ (c.loop-b.b * 8) (omega arith) (rw c.place.ensures at c.word_inside-x.ensures)
-    c.eight_bytes.ensures c.eight_bytes-in-loop-b.ensures c.same_where.ensures (ap not c.if-not-same_where.true)
+    next_differs _ _ _ _ _ (8 * c.loop-load.load * 8) (omega arith) (rw c.place.ensures at c.word_inside-x.ensures)
+    c.eight_bytes.ensures c.eight_bytes-in-loop-load.ensures c.same_where.ensures (ap not c.if-not-same_where.true)
 
-pub overflow_add-b : goal.overflow_add-b
-overflow_add-b c = omega arith
-
-pub loop-b-smaller : goal.loop-b-smaller
-loop-b-smaller c = omega arith
-
-pub loop-b-preserved : goal.loop-b-preserved
-loop-b-preserved c =
-    let l = c.loop-b in
-    let next : (l.b + 8) * 8 ≡ l.b * 8 + 64 = omega arith in (
+pub loop-load-preserved : goal.loop-load-preserved
+loop-load-preserved c =
+    let l = c.loop-load in
+    let next : 8 * (l.load + 1) * 8 ≡ 8 * l.load * 8 + 64 = omega arith in (
       rw next
-          (next_agrees _ _ _ _ _ (l.b * 8) (omega arith) (rw c.place.ensures at c.word_inside-x.ensures)
-          c.eight_bytes.ensures c.eight_bytes-in-loop-b.ensures c.same_where.ensures l.invariant.0 (ap not c.if-not-same_where.false)),
+          (next_agrees _ _ _ _ _ (8 * l.load * 8) (omega arith) (rw c.place.ensures at c.word_inside-x.ensures)
+          c.eight_bytes.ensures c.eight_bytes-in-loop-load.ensures c.same_where.ensures l.invariant.0 (ap not c.if-not-same_where.false)),
       omega arith,
     )
 
@@ -76,9 +70,9 @@ same_where-requires-2 c = omega arith
 
 pub returns : goal.returns
 returns c =
-    let l = c.loop-b in
+    let l = c.loop-load in
     let from = c.place-from.result.0 in
     let is = c.place-from.ensures in
     let back : c.args.self.now.pattern.m - (c.args.self.now.pattern.m - from) ≡ from = omega arith in
-    last_decides _ _ _ _ _ (l.b * 8) (c.args.self.now.pattern.m - from) l.invariant.0 (omega arith) (omega arith) (omega arith)
+    last_decides _ _ _ _ _ (8 * l.load * 8) (c.args.self.now.pattern.m - from) l.invariant.0 (omega arith) (omega arith) (omega arith)
     (rw back c.word_inside-x-2.ensures) (rw (back, is) c.eight_bytes-2.ensures) (rw (back, is) c.eight_bytes-3.ensures) c.same_where-2.ensures

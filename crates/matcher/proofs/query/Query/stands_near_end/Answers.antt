@@ -1,4 +1,5 @@
-use mathlib.Core.Path.{ap}
+use mathlib.Core.Path.{◌≡◌, ap}
+use Prim.Native.Nat.{◌+◌, ◌*◌}
 use mathlib.Core.Bool.{not}
 use native.Mathlib.Omega.{arith}
 use Rattle.matcher.proofs.Chunks.{one_load, none_passed, next_differs, next_agrees, last_decides}
@@ -9,32 +10,25 @@ returns-then-m-le64 c =
     one_load _ _ _ _ _ (omega arith) c.word_at.ensures c.word_at-then-m-le64.ensures
     c.word_at-then-m-le64-2.ensures c.same_where.ensures
 
-pub loop-i-init : goal.loop-i-init
-loop-i-init c = none_passed _ _ _ _ _ (omega arith)
-
-pub overflow_add-i : goal.overflow_add-i
-overflow_add-i c = omega arith
+pub loop-load-init : goal.loop-load-init
+loop-load-init c = none_passed _ _ _ _ _ (omega arith)
 
 pub overflow_add-at : goal.overflow_add-at
 overflow_add-at c = omega arith
 
 pub returns-then-not-same_where : goal.returns-then-not-same_where
 returns-then-not-same_where c =
-    let l = c.loop-i in
-    next_differs _ _ _ _ _ l.i (omega arith) c.word_at-x.ensures c.word_at-in-loop-i.ensures
-    c.word_at-in-loop-i-2.ensures c.same_where-in-loop-i.ensures (ap not c.if-not-same_where.true)
+    let l = c.loop-load in
+    next_differs _ _ _ _ _ (64 * l.load) (omega arith) c.word_at-x.ensures c.word_at-in-loop-load.ensures
+    c.word_at-in-loop-load-2.ensures c.same_where-in-loop-load.ensures (ap not c.if-not-same_where.true)
 
-pub overflow_add-i-in-loop-i : goal.overflow_add-i-in-loop-i
-overflow_add-i-in-loop-i c = omega arith
-
-pub loop-i-smaller : goal.loop-i-smaller
-loop-i-smaller c = omega arith
-
-pub loop-i-preserved : goal.loop-i-preserved
-loop-i-preserved c =
-    let l = c.loop-i in
-    next_agrees _ _ _ _ _ l.i (omega arith) c.word_at-x.ensures c.word_at-in-loop-i.ensures
-    c.word_at-in-loop-i-2.ensures c.same_where-in-loop-i.ensures l.invariant (ap not c.if-not-same_where.false)
+pub loop-load-preserved : goal.loop-load-preserved
+loop-load-preserved c =
+    let l = c.loop-load in
+    let next : 64 * (l.load + 1) ≡ 64 * l.load + 64 = omega arith in
+    rw next
+    (next_agrees _ _ _ _ _ (64 * l.load) (omega arith) c.word_at-x.ensures c.word_at-in-loop-load.ensures
+    c.word_at-in-loop-load-2.ensures c.same_where-in-loop-load.ensures l.invariant (ap not c.if-not-same_where.false))
 
 pub overflow_sub-last : goal.overflow_sub-last
 overflow_sub-last c = omega arith
@@ -47,6 +41,6 @@ overflow_add-at-2 c = omega arith
 
 pub returns : goal.returns
 returns c =
-    let l = c.loop-i in
-    last_decides _ _ _ _ _ l.i 64 l.invariant (omega arith) (omega arith) (omega arith) c.word_at-x-2.ensures
+    let l = c.loop-load in
+    last_decides _ _ _ _ _ (64 * l.load) 64 l.invariant (omega arith) (omega arith) (omega arith) c.word_at-x-2.ensures
     c.word_at-2.ensures c.word_at-3.ensures c.same_where-2.ensures
