@@ -16,9 +16,8 @@ use Rattle.rules.specs.Occurrence.{places, Occurs, occurs, occurrences}
 use Rattle.rules.specs.Machine.{Ending, done, Run}
 use Rattle.rules.proofs.Ranges.{same_test}
 use Rattle.rules.proofs.Occurrence.{occurs_iff, occurrences_rising, occurrences_exactly}
-use Rattle.search.specs.declared.Outcome.{Outcome}
-use Rattle.search.specs.declared.Outcome.TheVariants as outcome
-use Rattle.search.specs.Verdict.{Request, accepted, rows, machine, verdict, Searched}
+use Rattle.std.specs.Prelude.{Ok, Err}
+use Rattle.search.specs.Verdict.{Outcome, Request, accepted, rows, machine, verdict, Searched}
 use Rattle.search.specs.Calls as library
 use Rattle.search.proofs.Verdict.{accepted_fail}
 use Rattle.search.proofs.Calls.{complete}
@@ -70,12 +69,12 @@ taken t w s [] e m h = let z : ◌≡◌ {A = ℕ} 0 1 = cc in absurd (omega ari
 taken t w s (c ∷ cs) e m h = go c.outcome refl (library.last_stop cs) refl (λ f k. taken t w (library.mark_of s c.outcome) cs f m.1 k)
   where
     of : (o : Outcome) → c.outcome ≡ o → (l : Option Ending) → library.later (library.stop_of o) l ≡ some e → l ≡ none → Taken t w
-    of (outcome.Accepted a) i l k n = taken_by (library.request_of t w s c.asked) (machine (library.request_of t w s c.asked)) (accepted_verdict i m.0)
+    of (Ok a) i l k n = taken_by (library.request_of t w s c.asked) (machine (library.request_of t w s c.asked)) (accepted_verdict i m.0)
       where
-        accepted_verdict : c.outcome ≡ outcome.Accepted a → Searched (library.request_of t w s c.asked) c.outcome c.list_after c.scratch_after
+        accepted_verdict : c.outcome ≡ Ok a → Searched (library.request_of t w s c.asked) c.outcome c.list_after c.scratch_after
             → verdict (library.request_of t w s c.asked) ≡ accepted (machine (library.request_of t w s c.asked))
         accepted_verdict j q = let r = rw j at q in r.verdict_is
-    of (outcome.Refused y) i l k n = let z : ◌≡◌ {A = ℕ} 0 1 = cc in absurd (omega arith)
+    of (Err y) i l k n = let z : ◌≡◌ {A = ℕ} 0 1 = cc in absurd (omega arith)
 
     go : (o : Outcome) → c.outcome ≡ o → (l : Option Ending) → library.last_stop cs ≡ l → ((f : Ending) → library.last_stop cs ≡ some f → Taken t w) → Taken t w
     go o i none k below = of o i none (rw (i, k) at h) refl

@@ -8,9 +8,8 @@ use mathlib.Core.List.{List}
 use lib.ListN.{length}
 use Rattle.rules.specs.declared.Method.{Method}
 use Rattle.rules.specs.Machine.{Run}
-use Rattle.search.specs.declared.Outcome.{Outcome}
-use Rattle.search.specs.declared.Outcome.TheVariants.{Accepted, Refused}
-use Rattle.search.specs.Verdict.{Verdict, refused, accepted, Searched}
+use Rattle.std.specs.Prelude.{Ok, Err}
+use Rattle.search.specs.Verdict.{Outcome, Verdict, refused, accepted, Searched}
 use Rattle.search.proofs.Answers.{answered}
 use Rattle.capi.specs.Told.{Tells}
 use Rattle.capi.specs.Scan.{method_named, known, Call, request_of, search_verdict, figure_of, ScratchAfter, Searches}
@@ -46,11 +45,11 @@ as_searched q x r list scratch answer e h s =
     go a.outcome a.list a.scratch a.searched
   where
     go : (o : Outcome) (l u : List ℕ) → Searched (request_of x q) o l u → AsSearched q x r list scratch answer
-    go (Accepted a) l u p =
+    go (Ok a) l u p =
         let v = searched_by q x e h ∙ p.verdict_is in
         let kept = rw (v, e) at s.scratch_is in
         record {
-          outcome = Accepted a;
+          outcome = Ok a;
           searched =
               record {
                 verdict_is = p.verdict_is;
@@ -61,10 +60,10 @@ as_searched q x r list scratch answer e h s =
               };
           tells = rw (p.answer.steps, p.answer.occurrences, p.answer.mark, p.answer.ending) (rw v at s.tells);
         }
-    go (Refused y) l u p =
+    go (Err y) l u p =
         let v = searched_by q x e h ∙ p.verdict_is in
         record {
-          outcome = Refused y;
+          outcome = Err y;
           searched = record { verdict_is = p.verdict_is; list_is = rw v at s.list_is; scratch_is = rw v at s.scratch_is };
           tells = rw v at s.tells;
         }

@@ -16,11 +16,10 @@ use Rattle.bits.specs.Packed.{Packed}
 use Rattle.rules.specs.Pattern.{Pattern}
 use Rattle.rules.specs.Machine.{Ending, done, spent, full}
 use Rattle.rules.specs.declared.Method.{Method}
-use Rattle.search.specs.declared.Outcome.{Outcome}
-use Rattle.search.specs.declared.Outcome.TheVariants.{Accepted, Refused}
+use Rattle.std.specs.Prelude.{Ok, Err}
 use Rattle.search.specs.declared.Refusal.{Refusal}
 use Rattle.search.specs.declared.Refusal.TheVariants.{TextTooLong, TextBytesMissing, PatternLength, PatternBytesMissing, FixedBytesMissing, PatternUnfit, BeyondEnd, ScratchTooShort}
-use Rattle.search.specs.Verdict.{refused, verdict, number_of_refusal, Searched}
+use Rattle.search.specs.Verdict.{Outcome, refused, verdict, number_of_refusal, Searched}
 use Rattle.search.specs.Calls as library
 use Rattle.search.proofs.Calls as theorem
 use Rattle.capi.specs.Told.{unknown_method, answer_cells_missing, Tells}
@@ -85,9 +84,9 @@ module _ (t : Packed) (w : Pattern) (s : ℕ) (c : Made) where
         → Tells (outcome_tells o) c.asked.answer c.result c.answer_after
         → search_verdict (call_of t w s c.asked) ≡ verdict (request_of x (call_of t w s c.asked)) → Taken
     unfolding made
-    taken (Accepted a) p h v =
+    taken (Ok a) p h v =
         record {
-          call = made (Accepted a);
+          call = made (Ok a);
           searched = p;
           mark = rw (h.result_is, h.answer_is) refl;
           places = rw (h.result_is, h.answer_is) refl;
@@ -97,9 +96,9 @@ module _ (t : Packed) (w : Pattern) (s : ℕ) (c : Made) where
           list = refl;
           verdict_mark = rw (v ∙ p.verdict_is) (sym p.answer.mark);
         }
-    taken (Refused y) p h v =
+    taken (Err y) p h v =
         record {
-          call = made (Refused y);
+          call = made (Err y);
           searched = p;
           mark = rw (h.result_is, not_zero y) refl;
           places = rw (h.result_is, not_zero y) refl;

@@ -5,9 +5,8 @@ use mathlib.Core.Path.{◌≡◌, refl, ◌∙◌}
 use mathlib.Core.List.{List}
 use lib.ListN.{length}
 use Rattle.rules.specs.declared.Method.{Method}
-use Rattle.search.specs.declared.Outcome.{Outcome}
-use Rattle.search.specs.declared.Outcome.TheVariants.{Accepted, Refused}
-use Rattle.search.specs.Verdict.{verdict, Searched}
+use Rattle.std.specs.Prelude.{Ok, Err}
+use Rattle.search.specs.Verdict.{Outcome, verdict, Searched}
 use Rattle.positions.specs.Basics.{fault}
 use Rattle.positions.specs.Encode.{encode}
 use Rattle.positions.specs.Decode.{decode}
@@ -108,13 +107,13 @@ module _ (q : Call) where
   pub search_tells : (x : Method) (o : Outcome) (r : ℕ) (list scratch answer : List ℕ) → method_named q.method ≡ known x
       → 4 ≤ length q.answer → Searched (request_of x q) o list scratch → Tells (outcome_tells o) q.answer r answer
       → Searches q r list scratch answer
-  search_tells x (Accepted a) r list scratch answer e h s t =
+  search_tells x (Ok a) r list scratch answer e h s t =
       let v = searched_by x e h ∙ s.verdict_is in
       record {
         tells = rw v (rw (s.answer.steps, s.answer.occurrences, s.answer.mark, s.answer.ending) at t);
         list_is = rw v s.list_is;
         scratch_is = rw (v, e) (s.scratch_length, s.scratch_rest);
       }
-  search_tells x (Refused y) r list scratch answer e h s t =
+  search_tells x (Err y) r list scratch answer e h s t =
       let v = searched_by x e h ∙ s.verdict_is in
       record { tells = rw v t; list_is = rw v s.list_is; scratch_is = rw v s.scratch_is }

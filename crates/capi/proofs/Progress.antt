@@ -11,8 +11,8 @@ use lib.ListN.{length}
 use Rattle.bits.specs.Packed.{Packed}
 use Rattle.rules.specs.Pattern.{Pattern}
 use Rattle.rules.specs.Occurrence.{Occurs}
-use Rattle.search.specs.declared.Outcome.{Outcome}
-use Rattle.search.specs.declared.Outcome.TheVariants.{Accepted, Refused}
+use Rattle.std.specs.Prelude.{Ok, Err}
+use Rattle.search.specs.Verdict.{Outcome}
 use Rattle.search.specs.Calls as library
 use Rattle.search.proofs.Progress as search
 use Rattle.capi.specs.Scan.{stop_number, Searches}
@@ -36,8 +36,8 @@ module _ (t : Packed) (w : Pattern) (s : ℕ) (c : Made) (zero : c.result ≡ 0)
   by (inr k) = go k.call.outcome refl
     where
       go : (o : Outcome) → k.call.outcome ≡ o → Progress t w s c
-      go (Refused y) e = absurd (some-ne-none _ (sym stop_is ∙ k.stop ∙ ap (λ (o : Outcome). stop_numbers (library.stop_of o)) e))
-      go (Accepted a) e =
+      go (Err y) e = absurd (some-ne-none _ (sym stop_is ∙ k.stop ∙ ap (λ (o : Outcome). stop_numbers (library.stop_of o)) e))
+      go (Ok a) e =
           let p = search.progress (library.request_of t w s k.call.asked) a _ _ (rw e at k.searched) in
           let mark : cell 2 c ≡ a.mark.at.0 = sym mark_is ∙ k.mark ∙ ap (library.mark_of s) e in
           let steps : cell 0 c ≡ a.steps = sym steps_are ∙ k.steps ∙ ap library.steps_of e in

@@ -7,27 +7,19 @@ ghost use Rattle.capi.specs.Inner.{named_by, outcome_tells};
 
 use crate::{ANSWER_CELLS_MISSING, UNKNOWN_METHOD, cells};
 use bits::Place;
-use search::hash_value::HashAnswer;
-use search::scratch_cells::CellsAnswer;
-use search::{Mark, Method, Outcome, Stop, hash_value, scratch_cells};
+use search::{Answer, Mark, Method, Refusal, Stop, hash_value, scratch_cells};
 
 // The method that a number names.
-#[derive(Clone, Copy)]
-enum Named {
-    Known(Method),
-    Unknown,
-}
-
-fn method_of(k: u32) -> Named
+fn method_of(k: u32) -> Option<Method>
     ensures { named_by result ≡ method_named k }
 {
     match k {
-        0 => Named::Known(Method::Plain),
-        1 => Named::Known(Method::Hash),
-        2 => Named::Known(Method::Skip),
-        3 => Named::Known(Method::Wide),
-        4 => Named::Known(Method::Tail),
-        _ => Named::Unknown,
+        0 => Some(Method::Plain),
+        1 => Some(Method::Hash),
+        2 => Some(Method::Skip),
+        3 => Some(Method::Wide),
+        4 => Some(Method::Tail),
+        _ => None,
     }
 }
 
@@ -42,24 +34,19 @@ pub(crate) fn stop_of(stop: Stop) -> u64
 }
 
 // The number of an outcome; an accepted one's steps, occurrences, mark and stop go to the first four cells.
-fn tell(outcome: Outcome, answer: &mut [u64]) -> u32
+fn tell(outcome: Result<Answer, Refusal>, answer: &mut [u64]) -> u32
     requires { 4 ≤ length answer.old }
     ensures { Tells (outcome_tells outcome) answer.old result answer.new }
 {
     match outcome {
-        Outcome::Refused(why) => why.number(),
-        Outcome::Accepted(a) => {
-            let mark = a.mark;
-            let at = mark.at;
-            let stop = a.stop;
-            cells::four(
-                answer,
-                a.steps as u64,
-                a.occurrences as u64,
-                at.0 as u64,
-                stop_of(stop),
-            )
-        }
+        Err(why) => why.number(),
+        Ok(a) => cells::four(
+            answer,
+            a.steps as u64,
+            a.occurrences as u64,
+            a.mark.at.0 as u64,
+            stop_of(a.stop),
+        ),
     }
 }
 
@@ -81,16 +68,17 @@ pub extern "C" fn mitongory_search(
 ) -> u32
     ensures { Searches (record { text = text.entry.now; n = n; pattern = pattern.now; fixed = fixed.now; m = m; method = method; mark = mark; budget = budget; list = list.old; scratch = scratch.old; answer = answer.old }) result list.new scratch.new answer.new }
 {
-    let named = method_of(method);
-    let Named::Known(known) = named else {
+    let Some(known) = method_of(method) else {
         return UNKNOWN_METHOD;
     };
     if answer.len() < 4 {
         return ANSWER_CELLS_MISSING;
     }
     let from = Mark { at: Place(mark) };
-    let outcome = from.search(text, n, pattern, fixed, m, known, budget, list, scratch);
-    tell(outcome, answer)
+    tell(
+        from.search(text, n, pattern, fixed, m, known, budget, list, scratch),
+        answer,
+    )
 }
 
 // H(B) of the first m bits of the pattern.
@@ -107,10 +95,9 @@ pub extern "C" fn mitongory_hash_value(
     if answer.len() < 1 {
         return ANSWER_CELLS_MISSING;
     }
-    let hash = hash_value::hash_value(pattern, fixed, m, value);
-    match hash {
-        HashAnswer::Refused(why) => why.number(),
-        HashAnswer::Value(d) => cells::one(answer, d as u64),
+    match hash_value::hash_value(pattern, fixed, m, value) {
+        Err(why) => why.number(),
+        Ok(d) => cells::one(answer, d as u64),
     }
 }
 
@@ -119,16 +106,14 @@ pub extern "C" fn mitongory_hash_value(
 pub extern "C" fn mitongory_scratch_cells(method: u32, m: u64, answer: &mut [u64]) -> u32
     ensures { Tells (cells_told method m answer.old) answer.old result answer.new }
 {
-    let named = method_of(method);
-    let Named::Known(known) = named else {
+    let Some(known) = method_of(method) else {
         return UNKNOWN_METHOD;
     };
     if answer.len() < 1 {
         return ANSWER_CELLS_MISSING;
     }
-    let told = scratch_cells::scratch_cells(known, m);
-    match told {
-        CellsAnswer::Refused(why) => why.number(),
-        CellsAnswer::Cells(count) => cells::one(answer, count),
+    match scratch_cells::scratch_cells(known, m) {
+        Err(why) => why.number(),
+        Ok(count) => cells::one(answer, count),
     }
 }

@@ -9,14 +9,14 @@ pub returns-then-answer-lt1 : goal.returns-then-answer-lt1
 unfolding hash_told
 returns-then-answer-lt1 c = none_told (λ v. v) _ _ _ c.if-answer-lt1.true refl
 
-pub returns-in-Refused : goal.returns-in-Refused
+pub returns-in-Err : goal.returns-in-Err
 unfolding hash_told
-returns-in-Refused c =
-    let told = rw c.in-Refused.is at c.hash_value-hash.ensures in
+returns-in-Err c =
+    let told = rw c.in-Err.is at c.hash_value.ensures in
     refusal_told (λ v. v) _ _ _ c.if-answer-lt1.false (ap number_tells told) c.number.ensures
 
-pub returns-in-Value : goal.returns-in-Value
+pub returns-in-Ok : goal.returns-in-Ok
 unfolding hash_told
-returns-in-Value c =
-    let told = rw c.in-Value.is at c.hash_value-hash.ensures in
+returns-in-Ok c =
+    let told = rw c.in-Ok.is at c.hash_value.ensures in
     number_told (λ v. v) _ _ _ c.if-answer-lt1.false (ap number_tells told) c.one.ensures

@@ -11,24 +11,24 @@ pub returns-in_default : goal.returns-in_default
 unfolding cells_told
 returns-in_default c =
     let named = c.in_default.is in
-    let unknown = rw named at (sym c.method_of-named.ensures) in
+    let unknown = rw named at (sym c.method_of.ensures) in
     rw unknown (refusing _ _)
 
 pub returns-then-answer-lt1 : goal.returns-then-answer-lt1
 unfolding cells_told
 returns-then-answer-lt1 c =
-    let named = c.in-Known.is in
-    let known = rw named at (sym c.method_of-named.ensures) in
+    let named = c.in-Some.is in
+    let known = rw named at (sym c.method_of.ensures) in
     rw known (none_told (λ v. v) _ _ _ c.if-answer-lt1.true refl)
 
-pub returns-in-Cells : goal.returns-in-Cells
+pub returns-in-Ok : goal.returns-in-Ok
 unfolding cells_told
-returns-in-Cells c =
-    let told = rw c.in-Cells.is at c.scratch_cells-told.ensures in
-    rw (rw c.in-Known.is at (sym c.method_of-named.ensures)) (number_told (λ v. v) _ _ _ c.if-answer-lt1.false (ap number_tells told) c.one.ensures)
+returns-in-Ok c =
+    let told = rw c.in-Ok.is at c.scratch_cells.ensures in
+    rw (rw c.in-Some.is at (sym c.method_of.ensures)) (number_told (λ v. v) _ _ _ c.if-answer-lt1.false (ap number_tells told) c.one.ensures)
 
-pub returns-in-Refused : goal.returns-in-Refused
+pub returns-in-Err : goal.returns-in-Err
 unfolding cells_told
-returns-in-Refused c =
-    let told = rw c.in-Refused.is at c.scratch_cells-told.ensures in
-    rw (rw c.in-Known.is at (sym c.method_of-named.ensures)) (refusal_told (λ v. v) _ _ _ c.if-answer-lt1.false (ap number_tells told) c.number.ensures)
+returns-in-Err c =
+    let told = rw c.in-Err.is at c.scratch_cells.ensures in
+    rw (rw c.in-Some.is at (sym c.method_of.ensures)) (refusal_told (λ v. v) _ _ _ c.if-answer-lt1.false (ap number_tells told) c.number.ensures)

@@ -3,8 +3,8 @@
 use mathlib.Core.Path.{refl}
 use Rattle.capi.proofs.scan.tell.Goals as goal
 
-pub returns-in-Refused : goal.returns-in-Refused
-returns-in-Refused c = rw c.in-Refused.is (record { result_is = c.number.ensures; answer_is = refl })
+pub returns-in-Err : goal.returns-in-Err
+returns-in-Err c = rw c.in-Err.is (record { result_is = c.number.ensures; answer_is = refl })
 
-pub returns-in-Accepted : goal.returns-in-Accepted
-returns-in-Accepted c = rw c.in-Accepted.is (rw c.stop_of.ensures at c.four.ensures)
+pub returns-in-Ok : goal.returns-in-Ok
+returns-in-Ok c = rw c.in-Ok.is (rw c.stop_of.ensures at c.four.ensures)
