@@ -67,7 +67,9 @@ pub fn eight_bytes(bytes: &[u8], b: ByteNo) -> u64
     )
 }
 
-// The same where the bytes end with these eight or before: only those that are there are read.
+// The same where the bytes end with these eight or before: only those that are there are read. A hot loop calls this at the end
+// alone, so it is not inlined there.
+#[inline(never)]
 fn last_bytes(bytes: &[u8], b: ByteNo) -> u64
     requires { length bytes.now ≤ b.0 + 8 }
     ensures { result ≡ bits_at bytes.now (b.0 * 8) 64 }
