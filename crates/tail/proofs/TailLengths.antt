@@ -1,6 +1,6 @@
 -- Laws of the lengths that are left: the highest one, what a comparison says of one, and the greatest that the comparison bears out.
 -- Assumes nothing.
-use Prim.Native.Nat.{ℕ, zero, suc, ◌+◌, ◌-◌, ◌*◌, ◌/◌, ◌%◌, ◌^◌, ◌≤◌, ◌<◌, max}
+use Prim.Native.Nat.{ℕ, zero, suc, ◌+◌, ◌-◌, ◌*◌, ◌/◌, ◌%◌, ◌^◌, ◌≤◌, ◌<◌, max, min}
 use mathlib.Core.Path.{◌≡◌, refl, sym, ap, ◌∙◌}
 use mathlib.Core.Option.{some}
 use native.Mathlib.Nat.{div_self}
@@ -129,7 +129,7 @@ first_run_is word flip care r h g f l few =
         ∙ leading_none v (or_lt 64 (bit_xor word flip) (bit_xor 18446744073709551615 care) (xor_lt 64 word flip h g) (xor_lt 64 18446744073709551615 care (omega arith) f)) j (omega arith) (omega arith)
 
 -- the first of four bits in a row that are not wild, among those with a 1 in `later`
-pub four_is : (care later r : ℕ) → care < 2 ^ 64 → later < 2 ^ 64
+four_is : (care later r : ℕ) → care < 2 ^ 64 → later < 2 ^ 64
     → let two = bit_and care (care * 2 ^ 1 % 2 ^ 64) in
     r ≡ count_leading_zeros 64 (bit_and (bit_and two (two * 2 ^ 2 % 2 ^ 64)) later) → r < 63 → Four care r
 four_is care later r h g e few = record { few = omega arith; solid = λ i l u. bit i l }
@@ -165,9 +165,15 @@ four_is care later r h g e few = record { few = omega arith; solid = λ i l u. b
     bit (suc (suc (suc zero))) l = let at : r + 3 ≡ r + 2 + 1 = omega arith in rw at back.1
     bit (suc (suc (suc (suc i)))) l = absurd (omega arith)
 
--- and where there are none
-pub four_none : (care : ℕ) → Four care 63
-four_none care = record { few = omega arith; solid = λ i l u. absurd (omega arith) }
+-- and where there are none, 63
+pub first_four : (care later r : ℕ) → care < 2 ^ 64 → later < 2 ^ 64
+    → let two = bit_and care (care * 2 ^ 1 % 2 ^ 64) in
+    r ≡ min (count_leading_zeros 64 (bit_and (bit_and two (two * 2 ^ 2 % 2 ^ 64)) later)) 63 → Four care r
+first_four care later r h g e = go (dec_le 63 r)
+  where
+    go : Dec (63 ≤ r) → Four care r
+    go (yes l) = record { few = omega arith; solid = λ i u v. absurd (omega arith) }
+    go (no n) = four_is care later r h g (omega arith) (omega arith)
 
 -- ---- the greatest length that fits
 

@@ -20,8 +20,9 @@ use Rattle.rules.specs.Pattern.{Pattern, agrees}
 use Rattle.rules.proofs.Pattern.{agrees_by, agrees_one, agrees_zero}
 use Rattle.rules.proofs.Ranges.{every_at, to_every}
 use Rattle.matcher.specs.Tables.{TailTables}
+use Rattle.tail.specs.declared.FourBits.{FourBits}
 use Rattle.tail.specs.declared.Masks.{Masks}
-use Rattle.tail.specs.Lengths.{ends_in, MasksOf, spread_of, every_bit, care_of, Four, Made, Keeps, Fits}
+use Rattle.tail.specs.Lengths.{ends_in, MasksOf, spread_of, every_bit, care_of, Four, Spread, left_by_bit, left_by_four, Made, Keeps, Fits}
 
 -- ---- bits of words
 
@@ -302,8 +303,8 @@ module _ (k : Masks) (few_bits : k.m ≤ 64) (made : Made k) (x : ℕ) where
           (rw made.past_is (shl_twice_high 18446744073709551615 made.run 1 r (omega arith) (omega arith) ∙ weight_ones 64 (r - (made.run + 1)) (omega arith)))
 
   -- And so does each of four bits that are not wild, spread over b: the window is moved up by as many bits.
-  pub bit_leaves : (f c j b : ℕ) → Four k.care f → 1 ≤ c → c ≤ 4 → suc j ≡ f + c → b ≡ spread_of k.zeros j
-      → Leaves k x (bit_xor (x * 2 ^ f % 2 ^ 64 * 2 ^ c % 2 ^ 64) b)
+  bit_leaves : (f c j b : ℕ) → Four k.care f → 1 ≤ c → c ≤ 4 → suc j ≡ f + c → b ≡ spread_of k.zeros j
+      → Leaves k x (left_by_bit x f c b)
   bit_leaves f c j b four some few at is w count masks r l h =
       rw is
       (left_by w k.zeros k.ones masks x r j (x * 2 ^ f % 2 ^ 64 * 2 ^ c % 2 ^ 64) (omega arith) (omega arith) h
@@ -315,21 +316,25 @@ module _ (k : Masks) (few_bits : k.m ≤ 64) (made : Made k) (x : ℕ) where
       let there : f + (c - 1) ≡ j = omega arith in
       rw (there, made.care_is) at (four.solid (c - 1) (omega arith) (omega arith))))
 
+  four_leave : (f : FourBits) → Four k.care f.from → Spread k.zeros f → Leaves k x (left_by_four f x)
+  four_leave f four is =
+      both_leave k x _ _
+      (both_leave k x _ _
+      (both_leave k x _ _
+      (bit_leaves f.from 1 f.from f.b0 four (omega arith) (omega arith) (omega arith) is.is0)
+      (bit_leaves f.from 2 (f.from + 1) f.b1 four (omega arith) (omega arith) (omega arith) is.is1))
+      (bit_leaves f.from 3 (f.from + 2) f.b2 four (omega arith) (omega arith) (omega arith) is.is2))
+      (bit_leaves f.from 4 (f.from + 3) f.b3 four (omega arith) (omega arith) (omega arith) is.is3)
+
   -- all of them, and no length from m on
-  pub keeps_left : (t0 t1 t2 t3 t4 t5 t6 t7 : ℕ) → Leaves k x t0 → Leaves k x t1 → Leaves k x t2 → Leaves k x t3 → Leaves k x t4 → Leaves k x t5 → Leaves k x t6 → Leaves k x t7
-      → Keeps k.m k.zeros k.ones x (bit_and (bit_and (bit_and (bit_and (bit_and (bit_and (bit_and (bit_and (bit_and t0 t1) t2) t3) t4) t5) t6) t7) (left_by_run k x)) k.below)
-  keeps_left t0 t1 t2 t3 t4 t5 t6 t7 l0 l1 l2 l3 l4 l5 l6 l7 = within _ all
+  pub keeps_left : Keeps k.m k.zeros k.ones x (bit_and (bit_and (bit_and (left_by_four k.first x) (left_by_four k.second x)) (left_by_run k x)) k.below)
+  keeps_left = within _ all
     where
-      all : Leaves k x (bit_and (bit_and (bit_and (bit_and (bit_and (bit_and (bit_and (bit_and t0 t1) t2) t3) t4) t5) t6) t7) (left_by_run k x))
+      all : Leaves k x (bit_and (bit_and (left_by_four k.first x) (left_by_four k.second x)) (left_by_run k x))
       all =
           both_leave k x _ _
-          (both_leave k x _ _
-          (both_leave k x _ _
-          (both_leave k x _ _
-          (both_leave k x _ _
-          (both_leave k x _ _
-          (both_leave k x _ _
-          (both_leave k x _ _ l0 l1) l2) l3) l4) l5) l6) l7) run_leaves
+          (both_leave k x _ _ (four_leave k.first made.first made.first_spread) (four_leave k.second made.second made.second_spread))
+          run_leaves
 
       within : (d : ℕ) → Leaves k x d → Keeps k.m k.zeros k.ones x (bit_and d k.below)
       within d h =

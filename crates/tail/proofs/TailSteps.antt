@@ -46,16 +46,9 @@ before_end at n m h l = omega arith
 pub at_most_min : (a b : ℕ) → a ≤ b → min a b ≡ a
 at_most_min a b h = omega arith
 
--- a move of at most m from there stays before the end of the text, and so fits its type
+-- a move of at most m from there stays before the end of the text
 pub stays : (at n m far : ℕ) → far ≤ m → m ≤ n → at < 1 + n - m → at + far ≤ n
 stays at n m far few h l = omega arith
-
-pub mark_fits : (at n : ℕ) → n ≤ 2 ^ 30 → at ≤ n → at < 2 ^ 32
-mark_fits at n few l = omega arith
-
--- and so does a count
-pub one_more : (a b n : ℕ) → a < b → b < n → a + 1 < n
-one_more a b n l h = omega arith
 
 -- one step is more than none
 pub not_both : (steps : ℕ) → steps ≡ 0 → steps ≡ 1 → ⊥
@@ -68,10 +61,6 @@ counts steps e = omega arith
 pub one_made : (steps at s end : ℕ) → steps ≤ 1 → s < end → end ≤ at → (steps ≡ 0 → at ≡ s) → steps ≡ 1
 one_made zero at s end few l past same = let e : at ≡ s = same refl in omega arith
 one_made (suc steps) at s end few l past same = omega arith
-
--- fewer steps are left after one
-pub less_left : (steps budget : ℕ) → steps < budget → budget - (steps + 1) < budget - steps
-less_left steps budget l = omega arith
 
 -- ---- the table
 
@@ -185,16 +174,16 @@ pub record Held (w : Pattern) (k : Masks) : Type 0 where
   pub small : k.ones < 2 ^ 64
   pub made : Made k
 
-pub held : (t : Packed) (w : Pattern) (cells : List ℕ) → Ready Tail t w cells → (k : Masks) → get_or cells 1 0 < 2 ^ 64
-    → (k.m ≡ w.count) × (k.zeros ≡ get_or cells 0 0) × (k.ones ≡ get_or cells 1 0) × Made k → Held w k
-held t w cells ready k small is =
+pub held : (t : Packed) (w : Pattern) (cells : List ℕ) → Ready Tail t w cells → (k : Masks)
+    → (k.m ≡ w.count) × (k.zeros ≡ get_or cells 0 0) × (k.ones ≡ get_or cells 1 0) × (get_or cells 1 0 < 2 ^ 64) → Made k → Held w k
+held t w cells ready k is made =
     let short = short_enough w ready.pattern in
     record {
       count = is.0;
       short = short;
       masks = rw (is.1, is.2) (masks_of_tables w cells short ready.tables);
-      small = rw is.2 small;
-      made = is.3;
+      small = rw is.2 is.3;
+      made = made;
     }
 
 module _ (t : Packed) (w : Pattern) (s : ℕ) (k : Masks) (h : Held w k) (x : ℕ) (e : x ≡ bits_at t.bytes s w.count) where

@@ -1,6 +1,6 @@
 -- What the parts of the tail method promise each other: the lengths of the pattern's front that a window's end leaves, as the bits of a
 -- word, and the greatest of them.
-use Rattle.std.specs.Prelude.{ℕ, suc, ◌+◌, ◌-◌, ◌*◌, ◌/◌, ◌%◌, ◌^◌, ◌≤◌, ◌<◌, ◌≡◌, Bool, true, cond, List, eqb}
+use Rattle.std.specs.Prelude.{ℕ, suc, ◌+◌, ◌-◌, ◌*◌, ◌/◌, ◌%◌, ◌^◌, ◌≤◌, ◌<◌, ◌≡◌, Bool, true, cond, List, eqb, Result}
 use Rattle.std.proofs.Math.Option.{some}
 use Rattle.std.specs.Int.Bits.{bit_and, bit_xor}
 use Rattle.bits.specs.Packed.{Packed, weight, bit_of}
@@ -8,7 +8,10 @@ use Rattle.rules.specs.declared.Method.TheVariants.{Tail}
 use Rattle.rules.specs.Ranges.{every, greatest}
 use Rattle.rules.specs.Pattern.{Pattern, agrees}
 use Rattle.rules.specs.Occurrence.{places}
-use Rattle.matcher.specs.Progress.{Stepped}
+use Rattle.matcher.specs.declared.steps.Reached.{Reached}
+use Rattle.matcher.specs.declared.steps.Full.{Full}
+use Rattle.matcher.specs.Gives.{StepGives}
+use Rattle.tail.specs.declared.FourBits.{FourBits}
 use Rattle.tail.specs.declared.Masks.{Masks}
 
 -- the pattern's first r bits are the last r bits of the window x
@@ -54,6 +57,21 @@ pub record Four (care r : ℕ) : Type 0 where
   pub few : r ≤ 63
   pub solid : (i : ℕ) → i < 4 → r + i < 63 → bit_of 64 care (r + i) ≡ 1
 
+-- four bits of the pattern in a row, each spread
+pub record Spread (zeros : ℕ) (f : FourBits) : Type 0 where
+  pub is0 : f.b0 ≡ spread_of zeros f.from
+  pub is1 : f.b1 ≡ spread_of zeros (f.from + 1)
+  pub is2 : f.b2 ≡ spread_of zeros (f.from + 2)
+  pub is3 : f.b3 ≡ spread_of zeros (f.from + 3)
+
+-- what one of them leaves of the lengths: the window x, moved up to it, XORed with its word
+abbrev pub left_by_bit : ℕ → ℕ → ℕ → ℕ → ℕ
+left_by_bit x from c b = bit_xor (x * 2 ^ from % 2 ^ 64 * 2 ^ c % 2 ^ 64) b
+
+-- and what they leave together
+abbrev pub left_by_four : FourBits → ℕ → ℕ
+left_by_four f x = bit_and (bit_and (bit_and (left_by_bit x f.from 1 f.b0) (left_by_bit x f.from 2 f.b1)) (left_by_bit x f.from 3 f.b2)) (left_by_bit x f.from 4 f.b3)
+
 -- What is made of the masks for all steps of a call: which bits are not wild, a 1 for each length below the bit count, the first bit in
 -- every bit, a 1 for each length above the first run, and twice four bits of the pattern, each spread.
 pub record Made (k : Masks) : Type 0 where
@@ -63,16 +81,10 @@ pub record Made (k : Masks) : Type 0 where
   pub flip_is : k.flip ≡ every_bit k.ones 0
   pub run_is : FirstRun k.ones k.flip k.care run
   pub past_is : k.past ≡ 18446744073709551615 * 2 ^ run % 2 ^ 64 * 2 ^ 1 % 2 ^ 64
-  pub first : Four k.care k.from
-  pub second : Four k.care k.other
-  pub is0 : k.b0 ≡ spread_of k.zeros k.from
-  pub is1 : k.b1 ≡ spread_of k.zeros (k.from + 1)
-  pub is2 : k.b2 ≡ spread_of k.zeros (k.from + 2)
-  pub is3 : k.b3 ≡ spread_of k.zeros (k.from + 3)
-  pub is4 : k.b4 ≡ spread_of k.zeros k.other
-  pub is5 : k.b5 ≡ spread_of k.zeros (k.other + 1)
-  pub is6 : k.b6 ≡ spread_of k.zeros (k.other + 2)
-  pub is7 : k.b7 ≡ spread_of k.zeros (k.other + 3)
+  pub first : Four k.care k.first.from
+  pub first_spread : Spread k.zeros k.first
+  pub second : Four k.care k.second.from
+  pub second_spread : Spread k.zeros k.second
 
 -- For each pattern of m bits whose masks these are: no length from m on is left in d, and each length below m at which the pattern's
 -- first bits are the window's last is left. Others may be, since each is compared.
@@ -107,5 +119,5 @@ pub record Settled (ones care x d r : ℕ) : Type 0 where
   pub none_above : (i : ℕ) → r < i → weight d i ≡ 1 → Fits ones care x i → ⊥
 
 -- Where one step is asked for, and the mark is a place, that step is made.
-abbrev pub OneStep : Packed → Pattern → ℕ → ℕ → List ℕ → ℕ → ℕ → ℕ → Bool → List ℕ → Type 0
-OneStep t w s budget before had at hits no_cell list = budget ≡ 1 → s < places t w → Stepped Tail t w s before had at hits no_cell list
+abbrev pub OneStep : Packed → Pattern → ℕ → ℕ → List ℕ → Result Reached Full → List ℕ → Type 0
+OneStep t w s budget before result list = budget ≡ 1 → s < places t w → StepGives Tail t w s before result list

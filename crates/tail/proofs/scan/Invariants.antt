@@ -14,15 +14,15 @@ use Rattle.tail.specs.Lengths.{Moves}
 use Rattle.tail.proofs.scan.Given as goal
 
 abbrev pub invariant-loop-at : goal.invariant-loop-at
-invariant-loop-at l = let t = text_in l.text l.known in
-    let w = pattern_in l.pattern l.fixed l.known in
+invariant-loop-at l = let t = text_in l.search.query in
+    let w = pattern_in l.search.query in
     let there = min l.at (places t w) in
-    Advanced Tail t w l.initial.at l.budget l.initial.list l.had there l.steps l.hits false l.list
-    × (l.at ≤ l.known.n)
+    Advanced Tail t w l.initial.at l.budget l.initial.list 0 there l.steps l.hits false l.list
+    × (l.at ≤ l.search.query.n)
     × Moves l.k l.last l.far
     × (l.found ≡ eqb (bit_and (bit_xor l.last l.whole) l.care) 0)
-    × (l.steps ≡ 0 → (l.at ≡ l.initial.at) × (l.hits ≡ l.had) × (l.list ≡ l.initial.list))
-    × (l.steps ≡ 1 → Stepped Tail t w l.initial.at l.initial.list l.had there l.hits false l.list)
+    × (l.steps ≡ 0 → (l.at ≡ l.initial.at) × (l.hits ≡ 0) × (l.list ≡ l.initial.list))
+    × (l.steps ≡ 1 → Stepped Tail t w l.initial.at l.initial.list 0 there l.hits false l.list)
 
 abbrev pub decreases-loop-at : goal.decreases-loop-at
 decreases-loop-at l = l.budget - l.steps

@@ -12,4 +12,4 @@ pub returns : goal.returns
 returns c =
     let a = c.args in
     let other = bit_and (bit_xor a.ones c.every_bit-flip.result) a.care in
-    omega (arith, few_leading other (omega (arith, and_le_r (bit_xor a.ones c.every_bit-flip.result) a.care)))
+    omega (arith, c.saturating_sub.ensures, few_leading other (omega (arith, and_le_r (bit_xor a.ones c.every_bit-flip.result) a.care)))
