@@ -15,8 +15,7 @@ use Rattle.positions.specs.Rising.{rising}
 use Rattle.positions.specs.Encode.{encode}
 use Rattle.positions.specs.Decode.{decode}
 use Rattle.positions.specs.Promise.{Answer, count, refused, write_answer, leaves, Writes, read_answer, read_cells, Reads}
-use Rattle.positions.specs.declared.Written.TheVariants.{Bytes}
-use Rattle.positions.specs.declared.ReadAnswer.TheVariants.{Count}
+use Rattle.std.specs.Prelude.{Ok}
 use Rattle.positions.proofs.Answers.{refused_number, write_counted}
 use Rattle.positions.proofs.Decoded.{fault_number}
 use Rattle.positions.proofs.BadFileFirst.{bad_file_first}
@@ -28,30 +27,30 @@ use Rattle.capi.proofs.Telling.{enough_cells}
 -- ---- an accepted call is a call of the list file that was accepted
 
 pub as_written : {list target answer target' answer' : List ℕ} → ListWritten list target answer 0 target' answer'
-    → Writes list target (Bytes (told answer')) target'
+    → Writes list target (Ok (told answer')) target'
 unfolding write_verdict
 as_written {list} {target} {answer} {target'} {answer'} w = go (ltb (length answer) 1) refl
   where
     own : (v : Answer) → write_answer list (length target) ≡ v → Tells (count_tells v) answer 0 answer'
-        → target' ≡ leaves v (encode list) target → Writes list target (Bytes (told answer')) target'
+        → target' ≡ leaves v (encode list) target → Writes list target (Ok (told answer')) target'
     own (refused k) e t b = absurd (omega (arith, t.result_is, refused_number list (length target) k (sym e)))
     own (count n) e t b = rw t.answer_is (record { answer = sym e; target = rw e b })
 
-    go : (few : Bool) → ltb (length answer) 1 ≡ few → Writes list target (Bytes (told answer')) target'
+    go : (few : Bool) → ltb (length answer) 1 ≡ few → Writes list target (Ok (told answer')) target'
     go true h = absurd (omega (arith, rw h at w.tells.result_is))
     go false h = own (write_answer list (length target)) refl (rw h at w.tells) (rw h at w.target_is)
 
 pub as_read : {file cells answer cells' answer' : List ℕ} → ListRead file cells answer 0 cells' answer'
-    → Reads file cells (Count (told answer')) cells'
+    → Reads file cells (Ok (told answer')) cells'
 unfolding read_verdict read_answer
 as_read {file} {cells} {answer} {cells'} {answer'} r = go (ltb (length answer) 1) refl
   where
     own : (d : Result (List ℕ)) → decode file (length cells) ≡ d → Tells (count_tells (read_answer d)) answer 0 answer'
-        → cells' ≡ read_cells d cells → Reads file cells (Count (told answer')) cells'
+        → cells' ≡ read_cells d cells → Reads file cells (Ok (told answer')) cells'
     own (fault k) e t b = absurd (omega (arith, t.result_is, fault_number file (length cells) k e))
     own (ok l) e t b = rw t.answer_is (record { answer = rw e; cells = rw e b })
 
-    go : (few : Bool) → ltb (length answer) 1 ≡ few → Reads file cells (Count (told answer')) cells'
+    go : (few : Bool) → ltb (length answer) 1 ≡ few → Reads file cells (Ok (told answer')) cells'
     go true h = absurd (omega (arith, rw h at r.tells.result_is))
     go false h = own (decode file (length cells)) refl (rw h at r.tells) (rw h at r.cells_is)
 

@@ -3,7 +3,6 @@ ghost use Rattle.capi.specs.Told.{Tells};
 ghost use Rattle.capi.specs.ListFile.{size_told, ListWritten, ListRead};
 
 use crate::{ANSWER_CELLS_MISSING, cells};
-use positions::{ByteCount, ReadAnswer, Written};
 
 // How many bytes the file of a list has.
 #[unsafe(no_mangle)]
@@ -15,8 +14,8 @@ pub extern "C" fn mitongory_list_size(list: &[u32], answer: &mut [u64]) -> u32
     }
     let needed = positions::size(list);
     match needed {
-        ByteCount::Refused(why) => why.number(),
-        ByteCount::Bytes(n) => cells::one(answer, n as u64),
+        Err(why) => why.number(),
+        Ok(size) => cells::one(answer, size as u64),
     }
 }
 
@@ -30,8 +29,8 @@ pub extern "C" fn mitongory_list_write(list: &[u32], target: &mut [u8], answer: 
     }
     let written = positions::write(list, target);
     match written {
-        Written::Refused(why) => why.number(),
-        Written::Bytes(n) => cells::one(answer, n as u64),
+        Err(why) => why.number(),
+        Ok(bytes) => cells::one(answer, bytes as u64),
     }
 }
 
@@ -45,7 +44,7 @@ pub extern "C" fn mitongory_list_read(file: &[u8], cells: &mut [u32], answer: &m
     }
     let read = positions::read(file, cells);
     match read {
-        ReadAnswer::Refused(why) => why.number(),
-        ReadAnswer::Count(n) => cells::one(answer, n as u64),
+        Err(why) => why.number(),
+        Ok(count) => cells::one(answer, count as u64),
     }
 }

@@ -7,26 +7,19 @@ use draws::draw::{choose, draw, drawn_byte};
 use draws::number::{byte, least_of, minus, plus, small};
 use draws::packed::{get8, put8};
 use draws::{cells, packed};
-use positions::{ByteCount, ReadAnswer, Written};
+use positions::{ReadRefusal, WriteRefusal};
 
-fn written_in(answer: Written) -> usize {
+fn bytes_in(answer: Result<usize, WriteRefusal>) -> usize {
     match answer {
-        Written::Bytes(n) => n,
-        Written::Refused(why) => REFUSED + why.number() as usize,
+        Ok(n) => n,
+        Err(why) => REFUSED + why.number() as usize,
     }
 }
 
-fn counted_in(answer: ByteCount) -> usize {
+fn read_in(answer: Result<usize, ReadRefusal>) -> usize {
     match answer {
-        ByteCount::Bytes(n) => n,
-        ByteCount::Refused(why) => REFUSED + why.number() as usize,
-    }
-}
-
-fn read_in(answer: ReadAnswer) -> usize {
-    match answer {
-        ReadAnswer::Count(n) => n,
-        ReadAnswer::Refused(why) => REFUSED + why.number() as usize,
+        Ok(n) => n,
+        Err(why) => REFUSED + why.number() as usize,
     }
 }
 
@@ -55,7 +48,7 @@ fn count_of(number: usize) -> usize {
 // The library's writer, with a target of so many bytes.
 fn write_into(list: &[u32], room: usize, s: &mut [u8]) -> usize {
     let k = least_of(room, s.len());
-    written_in(positions::write(list, &mut s[0..k]))
+    bytes_in(positions::write(list, &mut s[0..k]))
 }
 
 // The file is read as the naive reader does, into cells that are enough or not; the cells after what was read stay, and a
@@ -93,9 +86,7 @@ fn judge_file(list: &[u32], room: usize, x: usize, size: usize, got: usize, s: &
         size
     };
     let count = count_of(want);
-    let same = (counted_in(positions::size(list)) == size)
-        & (got == want)
-        & same_bytes(s, count, x);
+    let same = (bytes_in(positions::size(list)) == size) & (got == want) & same_bytes(s, count, x);
     Judged {
         good: same & ((count == 0) | back(packed::part(s, 0, count), list, x)),
         number: got,

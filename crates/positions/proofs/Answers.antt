@@ -12,7 +12,7 @@ use Rattle.positions.specs.Rising.{rising}
 use Rattle.positions.specs.Encode.{encode}
 use Rattle.positions.specs.Promise.{count, refused, write_refusal, size_answer, write_answer, leaves, Writes}
 use Rattle.positions.specs.declared.WriteRefusal.{WriteRefusal}
-use Rattle.positions.specs.declared.Written.TheVariants.{Bytes, Refused}
+use Rattle.std.specs.Prelude.{Ok, Err}
 use Rattle.positions.proofs.Stores.{sets_front}
 
 -- ---- the byte count by itself
@@ -79,12 +79,12 @@ refused_number l room n e = go (rising l) refl
           | no f ↦ let k = is 9 (write_short l room h (omega arith)) in (omega arith, omega arith)
         ]
 
-pub writes_refused : (l target : List ℕ) (why : WriteRefusal) → write_answer l (length target) ≡ refused (write_refusal why) → Writes l target (Refused why) target
+pub writes_refused : (l target : List ℕ) (why : WriteRefusal) → write_answer l (length target) ≡ refused (write_refusal why) → Writes l target (Err why) target
 unfolding leaves
 writes_refused l target why e = record { answer = sym e; target = rw e }
 
 pub writes_bytes : (l target : List ℕ) (n : ℕ) → rising l ≡ true → n ≡ length (encode l) → n ≤ length target
-    → Writes l target (Bytes n) (sets target 0 (encode l))
+    → Writes l target (Ok n) (sets target 0 (encode l))
 unfolding leaves
 writes_bytes l target n r k h =
     let fits : length (encode l) ≤ length target = omega arith in

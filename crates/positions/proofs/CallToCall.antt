@@ -13,27 +13,27 @@ use Rattle.positions.specs.Encode.{encode}
 use Rattle.positions.specs.Decode.{decode}
 use Rattle.positions.specs.Promise.{Answer, count, write_gives, read_gives, leaves, Writes, read_answer, read_cells, Reads}
 use Rattle.positions.specs.CallToCall.{GivesBack, MakesAgain}
-use Rattle.positions.specs.declared.Written.{Written}
-use Rattle.positions.specs.declared.Written.TheVariants as written
-use Rattle.positions.specs.declared.ReadAnswer.{ReadAnswer}
-use Rattle.positions.specs.declared.ReadAnswer.TheVariants as answers
+use Rattle.std.specs.Prelude.{Ok, Err}
+use Rattle.std.specs.Prelude as std
+use Rattle.positions.specs.declared.WriteRefusal.{WriteRefusal}
+use Rattle.positions.specs.declared.ReadRefusal.{ReadRefusal}
 use Rattle.positions.proofs.Answers.{write_counted, counted_written}
 use Rattle.positions.proofs.RoundTrip.{decode_encode, FileOf, encode_decode}
 
 -- ---- an answer that is a count
 
-read_count : (r : ReadAnswer) (n : ℕ) → read_gives r ≡ count n → r ≡ answers.Count n
-read_count (answers.Count m) n e = cc
-read_count (answers.Refused why) n e = let z : ◌≡◌ {A = ℕ} 0 1 = cc in absurd (omega arith)
+read_count : (r : std.Result ℕ ReadRefusal) (n : ℕ) → read_gives r ≡ count n → r ≡ Ok n
+read_count (Ok m) n e = cc
+read_count (Err why) n e = let z : ◌≡◌ {A = ℕ} 0 1 = cc in absurd (omega arith)
 
-write_count : (w : Written) (n : ℕ) → write_gives w ≡ count n → w ≡ written.Bytes n
-write_count (written.Bytes m) n e = cc
-write_count (written.Refused why) n e = let z : ◌≡◌ {A = ℕ} 0 1 = cc in absurd (omega arith)
+write_count : (w : std.Result ℕ WriteRefusal) (n : ℕ) → write_gives w ≡ count n → w ≡ Ok n
+write_count (Ok m) n e = cc
+write_count (Err why) n e = let z : ◌≡◌ {A = ℕ} 0 1 = cc in absurd (omega arith)
 
 -- ---- a call of `write`, and then one of `read` on the bytes that it wrote
 
 -- the bytes that a call of `write` wrote decode to its list
-pub written_decodes : (l before after : List ℕ) (n cells : ℕ) → Writes l before (written.Bytes n) after → length l ≤ cells
+pub written_decodes : (l before after : List ℕ) (n cells : ℕ) → Writes l before (Ok n) after → length l ≤ cells
     → decode (take n after) cells ≡ ok l
 unfolding leaves
 written_decodes l before after n cells w h =
@@ -42,7 +42,7 @@ written_decodes l before after n cells w h =
     ap (λ (file : List ℕ). decode file cells) (ap (take n) bytes ∙ take_at (encode l) (drop n before) n (sym k.1))
     ∙ decode_encode l cells k.0 h
 
-pub write_then_read : {list target target' cells cells' : List ℕ} {n : ℕ} {r : ReadAnswer} → Writes list target (written.Bytes n) target'
+pub write_then_read : {list target target' cells cells' : List ℕ} {n : ℕ} {r : std.Result ℕ ReadRefusal} → Writes list target (Ok n) target'
     → Reads (take n target') cells r cells' → length list ≤ length cells → GivesBack list cells r cells'
 unfolding read_answer read_cells
 write_then_read {list} {target} {target'} {cells} {cells'} {n} {r} w p h =
@@ -52,7 +52,7 @@ write_then_read {list} {target} {target'} {cells} {cells'} {n} {r} w p h =
 -- ---- a call of `read`, and then one of `write` on the list that it gave
 
 -- the bytes that a call of `read` accepted are the file of the list that it wrote; a slice of `u8` has entries below 256
-pub read_encodes : (file before after : List ℕ) (n : ℕ) → are_bytes file ≡ true → Reads file before (answers.Count n) after
+pub read_encodes : (file before after : List ℕ) (n : ℕ) → are_bytes file ≡ true → Reads file before (Ok n) after
     → FileOf file (length before) (take n after)
 unfolding read_answer read_cells
 read_encodes file before after n a r = go (decode file (length before)) refl
@@ -64,8 +64,8 @@ read_encodes file before after n a r = go (decode file (length before)) refl
         let len : length l ≡ n = cc in
         rw (r.cells, e, take_at l (drop (length l) before) n len) (encode_decode file (length before) l a e)
 
-pub read_then_write : {file cells cells' target target' : List ℕ} {n : ℕ} {w : Written} → are_bytes file ≡ true
-    → Reads file cells (answers.Count n) cells' → Writes (take n cells') target w target' → length file ≤ length target
+pub read_then_write : {file cells cells' target target' : List ℕ} {n : ℕ} {w : std.Result ℕ WriteRefusal} → are_bytes file ≡ true
+    → Reads file cells (Ok n) cells' → Writes (take n cells') target w target' → length file ≤ length target
     → MakesAgain file (take n cells') target w target'
 unfolding leaves
 read_then_write {file} {cells} {cells'} {target} {target'} {n} {w} a p q h =

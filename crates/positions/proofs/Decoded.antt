@@ -2,20 +2,18 @@
 use Prim.Native.Nat.{ℕ, zero, suc, ◌+◌, ◌-◌, ◌*◌, ◌≤◌, ◌<◌}
 use mathlib.Core.Path.{◌≡◌, refl, sym, ap, ◌∙◌}
 use mathlib.Core.Bool.{Bool, true, false, ◌&&◌}
-use mathlib.Core.List.{List, [], ◌∷◌}
+use mathlib.Core.List.{List, [], ◌∷◌, ◌++◌}
 use native.Mathlib.Omega.{arith}
 use native.Mathlib.Decide.{dec_le}
 use borrow.Author.Tests.{le-leb, lt-leb}
 use lib.Dec.{leb, ltb, eqb}
-use lib.ListN.{length, drop, drop_of_length-le}
-use lib.Seq.{sets, drop-cons}
+use lib.ListN.{length, drop}
 use Rattle.positions.specs.Basics.{limit, pick, Result, ok, fault, and_then, is_empty}
 use Rattle.positions.specs.Decode.{last_group, read_groups, read_number, read_position, read_body, whole, contents, decode}
 use Rattle.positions.specs.Promise.{count, read_answer, read_cells, read_refusal, Reads}
 use Rattle.positions.specs.Inner.{rest_of, accepts, positions_of}
 use Rattle.positions.specs.declared.ReadRefusal.{ReadRefusal}
-use Rattle.positions.specs.declared.ReadAnswer.TheVariants.{Count, Refused}
-use Rattle.positions.proofs.Stores.{sets_front}
+use Rattle.std.specs.Prelude.{Ok, Err}
 use Rattle.positions.proofs.ReadGroups.{fault_ok, fault_same, ok_same, number_le, number_shorter}
 use Rattle.positions.proofs.ReadBody.{body_holds}
 
@@ -100,15 +98,17 @@ judged_end file k rest left c e = contents_body file k rest c ∙ go (read_body 
     go (fault m) q = absurd (fault_ok (sym q))
     go (ok b) q = ap (λ (l : List ℕ). pick (is_empty l) (ok b.0) (fault 13)) (sym (ok_same q))
 
-pub judged_left : (file : List ℕ) (k : ℕ) (rest : List ℕ) (after : ℕ) → read_number file ≡ ok (k, rest) → ok (drop after file) ≡ rest_of (read_body k 0 rest)
-    → after < length file → contents file ≡ fault 13
-judged_left file k rest after c e h = rw (drop-cons file after 0 h) at (judged_end file k rest (drop after file) c e)
+pub judged_left : (file : List ℕ) (k : ℕ) (rest left : List ℕ) → read_number file ≡ ok (k, rest) → ok left ≡ rest_of (read_body k 0 rest)
+    → 0 < length left → contents file ≡ fault 13
+judged_left file k rest [] c e h = absurd (omega arith)
+judged_left file k rest (b ∷ left) c e h = judged_end file k rest (b ∷ left) c e
 
-pub judged_good : (file : List ℕ) (k : ℕ) (rest : List ℕ) (after : ℕ) → read_number file ≡ ok (k, rest) → ok (drop after file) ≡ rest_of (read_body k 0 rest)
-    → length file ≤ after → (l : List ℕ) × (contents file ≡ ok l) × Holds k rest l
-judged_good file k rest after c e h =
+pub judged_good : (file : List ℕ) (k : ℕ) (rest left : List ℕ) → read_number file ≡ ok (k, rest) → ok left ≡ rest_of (read_body k 0 rest)
+    → length left ≡ 0 → (l : List ℕ) × (contents file ≡ ok l) × Holds k rest l
+judged_good file k rest (b ∷ left) c e h = absurd (omega arith)
+judged_good file k rest [] c e h =
     let l = positions_of (read_body k 0 rest) in
-    let good : contents file ≡ ok l = rw (drop_of_length-le file h) at (judged_end file k rest (drop after file) c e) in
+    let good : contents file ≡ ok l = judged_end file k rest [] c e in
     (l, good, body_list k rest l (sym (contents_body file k rest c) ∙ good))
 
 -- a good file's count is the length of its list, which is below the number of bytes and not above the limit
@@ -209,11 +209,11 @@ fault_number file cells n e = go (contents file) refl
 
 -- ---- the promise of `read`
 
-pub reads_fault : (file cells : List ℕ) (why : ReadRefusal) → decode file (length cells) ≡ fault (read_refusal why) → Reads file cells (Refused why) cells
+pub reads_fault : (file cells : List ℕ) (why : ReadRefusal) → decode file (length cells) ≡ fault (read_refusal why) → Reads file cells (Err why) cells
 unfolding read_answer read_cells
 reads_fault file cells why e = record { answer = rw e; cells = rw e }
 
-pub reads_list : (file cells : List ℕ) (n : ℕ) (l : List ℕ) → decode file (length cells) ≡ ok l → length l ≡ n → length l ≤ length cells
-    → Reads file cells (Count n) (sets cells 0 l)
+pub reads_list : (file cells : List ℕ) (n : ℕ) (l : List ℕ) → decode file (length cells) ≡ ok l → length l ≡ n
+    → Reads file cells (Ok n) (l ++ drop n cells)
 unfolding read_answer read_cells
-reads_list file cells n l e k h = record { answer = rw e (ap count (sym k)); cells = rw e (sets_front l cells h) }
+reads_list file cells n l e k = record { answer = rw e (ap count (sym k)); cells = rw (e, k) refl }

@@ -6,10 +6,14 @@ use mathlib.Core.List.{List, ◌∷◌}
 use native.Mathlib.Omega.{arith}
 use native.Mathlib.Decide.{dec_lt}
 use borrow.Author.Tests.{lt-ltb, le-ltb}
-use lib.ListN.{length, drop, length-drop}
+use lib.ListN.{length}
+use Rattle.std.specs.Prelude.{Ok, Err, IsOk}
+use Rattle.std.specs.Prelude as std
+use Rattle.std.specs.Borrow.{Bor}
+use Rattle.positions.specs.declared.ReadRefusal.{ReadRefusal}
 use Rattle.positions.specs.Basics.{limit, Result, ok, fault, and_then}
 use Rattle.positions.specs.Decode.{read_number, read_position, read_body}
-use Rattle.positions.specs.Inner.{rest_of, accepts, positions_of}
+use Rattle.positions.specs.Inner.{reading_in, rest_of, accepts, positions_of}
 use Rattle.positions.proofs.ReadGroups.{fault_ok, ok_pair, number_shorter}
 
 -- ---- one position
@@ -114,23 +118,27 @@ first_of left next bytes h a = go (read_position next bytes) refl
               ∙ ap (λ (p : ℕ). prepend p (read_body (left - 1) (p + 1) r.1)) t.2;
         }
 
--- the same by what the code read: a number and the index after it
-pub first_read : (left next : ℕ) (file : List ℕ) (at n after : ℕ) → 0 < left → accepts (read_body left next (drop at file)) ≡ true
-    → ok (n, drop after file) ≡ read_number (drop at file)
-    → (next + n < limit)
-    × (read_body left next (drop at file) ≡ prepend (next + n) (read_body (left - 1) (next + n + 1) (drop after file)))
-first_read left next file at n after h a e =
-    let f = first_of left next (drop at file) h a in
+-- the same by what the code read
+pub first_read : (left next : ℕ) (bytes : List ℕ) (n : ℕ) (rest : List ℕ) → 0 < left → accepts (read_body left next bytes) ≡ true
+    → ok (n, rest) ≡ read_number bytes
+    → (next + n < limit) × (read_body left next bytes ≡ prepend (next + n) (read_body (left - 1) (next + n + 1) rest))
+first_read left next bytes n rest h a e =
+    let f = first_of left next bytes h a in
     let same = ok_pair (sym f.read ∙ sym e) in (
       omega (arith, f.below, same.0),
       f.body_is ∙ (λ j. prepend (next + same.0 j) (read_body (left - 1) (next + same.0 j + 1) (same.1 j))),
     )
 
--- there is a byte at its index
-pub first_there : (left next : ℕ) (file : List ℕ) (at : ℕ) → 0 < left → accepts (read_body left next (drop at file)) ≡ true → at < length file
-first_there left next file at h a =
-    let f = first_of left next (drop at file) h a in
-    omega (arith, number_shorter (drop at file) f.n f.rest f.read, length-drop at file)
+-- what the code reads of it is no fault
+pub read_ok : (r : std.Result (ℕ × Bor (List ℕ)) ReadRefusal) {x : ℕ × List ℕ} → reading_in r ≡ ok x → IsOk r
+read_ok (Ok f) e = refl
+read_ok (Err why) e = absurd (fault_ok e)
+
+-- there is a byte
+pub first_there : (left next : ℕ) (bytes : List ℕ) → 0 < left → accepts (read_body left next bytes) ≡ true → 0 < length bytes
+first_there left next bytes h a =
+    let f = first_of left next bytes h a in
+    omega (arith, number_shorter bytes f.n f.rest f.read)
 
 -- a body has as many positions as were asked for, and a byte or more for each
 abbrev pub BodyHolds : ℕ → ℕ → List ℕ → Type 0

@@ -5,10 +5,8 @@ use mathlib.Core.Bool.{Bool, true, false, ◌&&◌, and-false}
 use mathlib.Core.List.{List, [], ◌∷◌}
 use native.Mathlib.Omega.{arith}
 use native.Mathlib.Nat.{mul_assoc, mul-le-mul_right, mul-le-mul_left, pow-succ', one-le-pow}
-use native.Mathlib.Numerals.{add-one}
 use native.Mathlib.Decide.{dec_lt}
-use lib.ListN.{length, get_or, drop, drop_of_length-le}
-use lib.Seq.{drop-cons}
+use lib.ListN.{length}
 use lib.Dec.{leb, ltb, eqb}
 use borrow.Author.Tests.{lt-ltb, le-ltb, le-leb, lt-leb, eq-eqb, ne_eqb, leb-true}
 use Rattle.positions.specs.Basics.{limit, Result, ok, fault}
@@ -62,27 +60,40 @@ last_taken w b n rest m r e = go (ltb 1 w && eqb b 0) (leb n limit) refl refl
         let q : ◌≡◌ {A = Result (ℕ × List ℕ)} (ok (n, rest)) (ok (m, r)) = rw (ht, hu) at e in
         (ht, (ok_pair q).0, (ok_pair q).1, leb-true n limit hu)
 
--- ---- a group at an index of a file
+-- ---- a group, by the next byte
 
-pub groups_end : (left w v : ℕ) (file : List ℕ) (at : ℕ) → 0 < left → length file ≤ at → read_groups left w v (drop at file) ≡ fault 10
+pub groups_end : (left w v : ℕ) (bytes : List ℕ) → 0 < left → length bytes ≡ 0 → read_groups left w v bytes ≡ fault 10
 unfolding read_groups
-groups_end zero w v file at h e = absurd (omega arith)
-groups_end (suc k) w v file at h e = rw (drop_of_length-le file e)
+groups_end zero w v bytes h e = absurd (omega arith)
+groups_end (suc k) w v [] h e = refl
+groups_end (suc k) w v (b ∷ bytes) h e = absurd (omega arith)
 
-pub groups_last : (left w v : ℕ) (file : List ℕ) (at : ℕ) → 0 < left → at < length file → get_or file at 0 < 128
-    → read_groups left w v (drop at file) ≡ last_group w (get_or file at 0) (v + get_or file at 0 * w) (drop (at + 1) file)
+pub groups_last : (left w v b : ℕ) (rest : List ℕ) → 0 < left → b < 128 → read_groups left w v (b ∷ rest) ≡ last_group w b (v + b * w) rest
 unfolding read_groups
-groups_last zero w v file at h i b = absurd (omega arith)
-groups_last (suc k) w v file at h i b = rw (add-one at, drop-cons file at 0 i, lt-ltb (get_or file at 0) 128 b)
+groups_last zero w v b rest h l = absurd (omega arith)
+groups_last (suc k) w v b rest h l = rw (lt-ltb b 128 l)
 
-pub groups_more : (left w v : ℕ) (file : List ℕ) (at : ℕ) → 0 < left → at < length file → 128 ≤ get_or file at 0
-    → read_groups left w v (drop at file) ≡ read_groups (left - 1) (w * 128) (v + (get_or file at 0 - 128) * w) (drop (at + 1) file)
+pub groups_more : (left w v b : ℕ) (rest : List ℕ) → 0 < left → 128 ≤ b
+    → read_groups left w v (b ∷ rest) ≡ read_groups (left - 1) (w * 128) (v + (b - 128) * w) rest
 unfolding read_groups
-groups_more zero w v file at h i b = absurd (omega arith)
-groups_more (suc k) w v file at h i b =
+groups_more zero w v b rest h l = absurd (omega arith)
+groups_more (suc k) w v b rest h l =
     let e : k ≡ suc k - 1 = omega arith in
-    rw (add-one at, drop-cons file at 0 i, le-ltb (get_or file at 0) 128 b)
-    (ap (λ (m : ℕ). read_groups m (w * 128) (v + (get_or file at 0 - 128) * w) (drop (suc at) file)) e)
+    rw (le-ltb b 128 l) (ap (λ (m : ℕ). read_groups m (w * 128) (v + (b - 128) * w) rest) e)
+
+-- ---- a number, by its first byte
+
+pub number_one : (b : ℕ) (rest : List ℕ) → b < 128 → read_number (b ∷ rest) ≡ ok (b, rest)
+unfolding read_number
+number_one b rest l =
+    let e : 0 + b * 1 ≡ b = omega arith in
+    groups_last 5 1 0 b rest (omega arith) l ∙ last_ok 1 b (0 + b * 1) rest refl (omega arith) ∙ ap (λ (n : ℕ). ok (n, rest)) e
+
+pub number_more : (b : ℕ) (rest : List ℕ) → 128 ≤ b → read_number (b ∷ rest) ≡ read_groups 4 128 (b - 128) rest
+unfolding read_number
+number_more b rest l =
+    let e : 0 + (b - 128) * 1 ≡ b - 128 = omega arith in
+    groups_more 5 1 0 b rest (omega arith) l ∙ ap (λ (n : ℕ). read_groups 4 128 n rest) e
 
 -- ---- a number that is read is not above the limit, and takes a byte or more
 

@@ -8,9 +8,10 @@ use native.Mathlib.Numerals.{add-one}
 use native.Mathlib.Decide.{dec_le, dec_lt}
 use borrow.Author.Tests.{lt-ltb, le-ltb, le-leb, lt-leb}
 use lib.Dec.{leb, ltb, leb-zero}
-use lib.ListN.{length, get_or, drop, length-append, drop_of_length-le}
+use lib.ListN.{length, get_or, drop, length-append, length-drop, drop_of_length-le}
 use lib.Pow.{are_bytes}
 use lib.Seq.{drop-cons}
+use Rattle.std.proofs.lemmas.List.{get_or_default}
 use Rattle.positions.specs.Basics.{limit}
 use Rattle.positions.specs.Rising.{rises_from, rising}
 use Rattle.positions.specs.Encode.{encode_number, encode_from, encode}
@@ -135,6 +136,23 @@ pub rises_first : (l : List ℕ) → 0 < length l → (ltb (get_or l 0 0) limit 
 unfolding rising rises_from
 rises_first [] h = absurd (omega arith)
 rises_first (p ∷ ps) h = rw (leb-zero p)
+
+-- a position and the list after it, where a part of the list begins with them
+pub record Next (l : List ℕ) (i p : ℕ) (ps : List ℕ) : Type 0 where
+  pub inside : i < length l
+  pub first_is : p ≡ get_or l i 0
+  pub rest_is : ps ≡ drop (i + 1) l
+
+pub next : (l : List ℕ) (i p : ℕ) (ps : List ℕ) → drop i l ≡ p ∷ ps → Next l i p ps
+next l i p ps e =
+    let inside : i < length l = omega (arith, ap length e, length-drop i l) in
+    let h = here l i inside in
+    record { inside = inside; first_is = cc; rest_is = cc }
+
+-- the last of a list, which is its first where there are no others
+pub last_of : (first : ℕ) (others : List ℕ) → get_or others (length others - 1) first ≡ get_or (first ∷ others) (length others) 0
+last_of first [] = refl
+last_of first (p ∷ ps) = let last : length (p ∷ ps) - 1 ≡ length ps = omega arith in rw last (get_or_default (p ∷ ps) (length ps) first 0 (omega arith))
 
 -- ---- the byte count
 

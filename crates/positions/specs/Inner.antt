@@ -1,27 +1,25 @@
 -- What the contracts of the private functions cite: no public promise rests on it.
-use Rattle.std.specs.Prelude.{ℕ, Bool, true, false, List, [], drop}
+use Rattle.std.specs.Prelude.{ℕ, Bool, true, false, List, [], Ok, Err}
+use Rattle.std.specs.Prelude as std
+use Rattle.std.specs.Borrow.{Bor}
 use Rattle.positions.specs.Basics.{Result, ok, fault}
 use Rattle.positions.specs.Promise.{read_refusal}
-use Rattle.positions.specs.declared.number.Reading.{Reading}
-use Rattle.positions.specs.declared.number.Reading.TheVariants.{Number, Refused}
-use Rattle.positions.specs.declared.reader.End.{End}
-use Rattle.positions.specs.declared.reader.End.TheVariants.{At}
-use Rattle.positions.specs.declared.reader.End.TheVariants as ends
+use Rattle.positions.specs.declared.ReadRefusal.{ReadRefusal}
 
--- what the code found in a file: a number and the bytes from the index after it on, or a fault
-abbrev pub reading_in : List ℕ → Reading → Result (ℕ × List ℕ)
-reading_in file (Number n after) = ok (n, drop after file)
-reading_in file (Refused r) = fault (read_refusal r)
+-- what the code found: a number and the bytes after it, or a fault
+abbrev pub reading_in : std.Result (ℕ × Bor (List ℕ)) ReadRefusal → Result (ℕ × List ℕ)
+reading_in (Ok r) = ok (r.0, r.1.now)
+reading_in (Err r) = fault (read_refusal r)
 
 -- the bytes that remain after a body, or its fault
 abbrev pub rest_of : Result (List ℕ × List ℕ) → Result (List ℕ)
 rest_of (ok b) = ok b.1
 rest_of (fault n) = fault n
 
--- the same as the code found it in a file: the bytes from the index after the last position on
-abbrev pub end_in : List ℕ → End → Result (List ℕ)
-end_in file (At after) = ok (drop after file)
-end_in file (ends.Refused r) = fault (read_refusal r)
+-- the same as the code found it
+abbrev pub end_in : std.Result (Bor (List ℕ)) ReadRefusal → Result (List ℕ)
+end_in (Ok rest) = ok rest.now
+end_in (Err r) = fault (read_refusal r)
 
 -- whether there is no fault
 abbrev pub accepts : {A : Type 0} → Result A → Bool

@@ -1,19 +1,14 @@
 -- What each call promises: document 01's number of each refusal, the answers, and what stands in the buffers at exit.
-use Rattle.std.specs.Prelude.{ℕ, ◌≡◌, List, ◌++◌, length, drop, leb}
+use Rattle.std.specs.Prelude.{ℕ, ◌≡◌, List, ◌++◌, length, drop, leb, Ok, Err}
+use Rattle.std.specs.Prelude as std
 use Rattle.positions.specs.Basics.{pick, Result, ok, fault}
 use Rattle.positions.specs.Rising.{rising}
 use Rattle.positions.specs.Encode.{encode}
 use Rattle.positions.specs.Decode.{decode}
 use Rattle.positions.specs.declared.WriteRefusal.{WriteRefusal}
 use Rattle.positions.specs.declared.WriteRefusal.TheVariants.{ListNotRising, TargetTooShort}
-use Rattle.positions.specs.declared.Written.{Written}
-use Rattle.positions.specs.declared.Written.TheVariants as written
-use Rattle.positions.specs.declared.ByteCount.{ByteCount}
-use Rattle.positions.specs.declared.ByteCount.TheVariants as counts
 use Rattle.positions.specs.declared.ReadRefusal.{ReadRefusal}
 use Rattle.positions.specs.declared.ReadRefusal.TheVariants.{FileEndsEarly, NumberNotShortest, NumberTooLarge, BytesLeftOver, CellsMissing}
-use Rattle.positions.specs.declared.ReadAnswer.{ReadAnswer}
-use Rattle.positions.specs.declared.ReadAnswer.TheVariants as answers
 
 -- an answer as document 01 has it: a count, or a refusal by its number
 pub data Answer : Type 0 where
@@ -33,17 +28,17 @@ read_refusal NumberTooLarge = 12
 read_refusal BytesLeftOver = 13
 read_refusal CellsMissing = 14
 
-abbrev pub size_gives : ByteCount → Answer
-size_gives (counts.Bytes n) = count n
-size_gives (counts.Refused r) = refused (write_refusal r)
+abbrev pub size_gives : std.Result ℕ WriteRefusal → Answer
+size_gives (Ok n) = count n
+size_gives (Err r) = refused (write_refusal r)
 
-abbrev pub write_gives : Written → Answer
-write_gives (written.Bytes n) = count n
-write_gives (written.Refused r) = refused (write_refusal r)
+abbrev pub write_gives : std.Result ℕ WriteRefusal → Answer
+write_gives (Ok n) = count n
+write_gives (Err r) = refused (write_refusal r)
 
-abbrev pub read_gives : ReadAnswer → Answer
-read_gives (answers.Count n) = count n
-read_gives (answers.Refused r) = refused (read_refusal r)
+abbrev pub read_gives : std.Result ℕ ReadRefusal → Answer
+read_gives (Ok n) = count n
+read_gives (Err r) = refused (read_refusal r)
 
 -- ---- the writer: document 01: "Writer: 8 before 9. The writer returns its byte count, .. target bytes .. past that stay"
 
@@ -62,7 +57,7 @@ leaves (count n) new old = new ++ drop n old
 leaves (refused r) new old = old
 
 -- the promise of `write`, for a target that is `before` at entry and `after` at exit
-pub record Writes (list before : List ℕ) (w : Written) (after : List ℕ) : Type 0 where
+pub record Writes (list before : List ℕ) (w : std.Result ℕ WriteRefusal) (after : List ℕ) : Type 0 where
   pub answer : write_gives w ≡ write_answer list (length before)
   pub target : after ≡ leaves (write_answer list (length before)) (encode list) before
 
@@ -78,6 +73,6 @@ read_cells (ok l) cells = l ++ drop (length l) cells
 read_cells (fault n) cells = cells
 
 -- the promise of `read`, for cells that are `before` at entry and `after` at exit
-pub record Reads (file before : List ℕ) (r : ReadAnswer) (after : List ℕ) : Type 0 where
+pub record Reads (file before : List ℕ) (r : std.Result ℕ ReadRefusal) (after : List ℕ) : Type 0 where
   pub answer : read_gives r ≡ read_answer (decode file (length before))
   pub cells : after ≡ read_cells (decode file (length before)) before

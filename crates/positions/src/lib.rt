@@ -17,7 +17,7 @@ pub use writer::{rises, size, write};
 const LIMIT: u32 = 1073741824;
 
 // Why a list is not written.
-#[derive(Clone, Copy)]
+#[derive(Clone, Copy, PartialEq, Eq, Debug)]
 pub enum WriteRefusal {
     // The positions do not rise strictly, or one is 2^30 or more.
     ListNotRising,
@@ -26,7 +26,7 @@ pub enum WriteRefusal {
 }
 
 impl WriteRefusal {
-    // Document 01's number of the refusal.
+    // Document 01's number of the refusal, which C is told.
     pub fn number(self) -> u32
         ensures { result ≡ write_refusal self }
     {
@@ -37,23 +37,8 @@ impl WriteRefusal {
     }
 }
 
-// The writer's answer.
-#[derive(Clone, Copy)]
-pub enum Written {
-    // How many bytes of the target were written.
-    Bytes(usize),
-    Refused(WriteRefusal),
-}
-
-// The answer to how many bytes a list needs.
-#[derive(Clone, Copy)]
-pub enum ByteCount {
-    Bytes(usize),
-    Refused(WriteRefusal),
-}
-
 // Why a file is not read.
-#[derive(Clone, Copy)]
+#[derive(Clone, Copy, PartialEq, Eq, Debug)]
 pub enum ReadRefusal {
     // The file ends early.
     FileEndsEarly,
@@ -68,7 +53,7 @@ pub enum ReadRefusal {
 }
 
 impl ReadRefusal {
-    // Document 01's number of the refusal.
+    // Document 01's number of the refusal, which C is told.
     pub fn number(self) -> u32
         ensures { result ≡ read_refusal self }
     {
@@ -80,12 +65,4 @@ impl ReadRefusal {
             ReadRefusal::CellsMissing => 14,
         }
     }
-}
-
-// The reader's answer.
-#[derive(Clone, Copy)]
-pub enum ReadAnswer {
-    // How many cells were written: the list's count.
-    Count(usize),
-    Refused(ReadRefusal),
 }

@@ -10,13 +10,6 @@ use crate::ReadRefusal;
 // No number of the file is above 2^30.
 const LARGEST: u64 = 1073741824;
 
-// What reading at an index of the file finds: a number with the index after it, or its fault.
-#[derive(Clone, Copy)]
-pub(crate) enum Reading {
-    Number(u32, usize),
-    Refused(ReadRefusal),
-}
-
 // How many bytes a number takes: one for each seven bits, with no branch, since the lengths of a list's numbers cannot be
 // predicted. A number has 0 to 32 bits, and for these (9 * bits + 64) / 64 rounded down is bits / 7 rounded up, or 1 for no bit.
 pub(crate) fn size(n: u32) -> usize
@@ -34,7 +27,8 @@ fn put_byte(target: &mut [u8], at: usize, byte: u8)
     target[at] = byte;
 }
 
-// Stores a number from `start` on, and gives the index after it.
+// Stores a number from `start` on, and gives the index after it. The loop goes by what is left of the number, which alone says
+// how many bytes there are, so no `for` fits.
 pub(crate) fn put(target: &mut [u8], start: usize, n: u32) -> usize
     requires { start + length (encode_number n) ≤ length target.old }
     ensures next { result ≡ start + length (encode_number n) }
@@ -51,56 +45,54 @@ pub(crate) fn put(target: &mut [u8], start: usize, n: u32) -> usize
     at + 1
 }
 
-// The number that stands at `at`.
-pub(crate) fn read(file: &[u8], at: usize) -> Reading
-    ensures { reading_in file.now result ≡ read_number (drop at file.now) }
+// The number that a file begins with, and the bytes after it.
+pub(crate) fn read(file: &[u8]) -> Result<(u32, &[u8]), ReadRefusal>
+    ensures { reading_in result ≡ read_number file.now }
 {
-    if file.len() <= at {
-        return Reading::Refused(ReadRefusal::FileEndsEarly);
+    if file.is_empty() {
+        return Err(ReadRefusal::FileEndsEarly);
     }
-    read_here(file, at)
+    read_here(file)
 }
 
-// The number that stands at `at`, where there is a byte. Most numbers are a single byte, which is tested first.
-pub(crate) fn read_here(file: &[u8], at: usize) -> Reading
-    requires { at < length file.now }
-    ensures { reading_in file.now result ≡ read_number (drop at file.now) }
+// The same where there is a byte. Most numbers are a single byte, which is tested first.
+pub(crate) fn read_here(file: &[u8]) -> Result<(u32, &[u8]), ReadRefusal>
+    requires { 0 < length file.now }
+    ensures { reading_in result ≡ read_number file.now }
 {
-    let b = file[at] as u32;
+    let (&b, rest) = file.split_first().unwrap();
     if b < 128 {
-        return Reading::Number(b, at + 1);
+        return Ok((b as u32, rest));
     }
-    read_on(file, at + 1, (b - 128) as u64)
+    read_on(rest, (b - 128) as u64)
 }
 
 // The number whose first group is `low`, read on from its second group.
-fn read_on(file: &[u8], start: usize, low: u64) -> Reading
+fn read_on(file: &[u8], low: u64) -> Result<(u32, &[u8]), ReadRefusal>
     requires { low < 128 }
-    ensures { reading_in file.now result ≡ read_groups 4 128 low (drop start file.now) }
+    ensures { reading_in result ≡ read_groups 4 128 low file.now }
 {
-    let mut at = start;
+    let mut rest = file;
     let mut value = low;
     let mut weight: u64 = 128;
-    let mut left: u32 = 4;
-    while 0 < left {
-        if file.len() <= at {
-            return Reading::Refused(ReadRefusal::FileEndsEarly);
-        }
-        let b = file[at] as u64;
-        at += 1;
+    for _ in 0..4u32 {
+        let Some((&b, after)) = rest.split_first() else {
+            return Err(ReadRefusal::FileEndsEarly);
+        };
+        let b = b as u64;
+        rest = after;
         if b < 128 {
             if b == 0 {
-                return Reading::Refused(ReadRefusal::NumberNotShortest);
+                return Err(ReadRefusal::NumberNotShortest);
             }
             let whole = value + b * weight;
             if LARGEST < whole {
-                return Reading::Refused(ReadRefusal::NumberTooLarge);
+                return Err(ReadRefusal::NumberTooLarge);
             }
-            return Reading::Number(whole as u32, at);
+            return Ok((whole as u32, rest));
         }
         value += (b - 128) * weight;
         weight *= 128;
-        left -= 1;
     }
-    Reading::Refused(ReadRefusal::NumberTooLarge)
+    Err(ReadRefusal::NumberTooLarge)
 }

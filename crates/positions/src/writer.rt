@@ -5,29 +5,25 @@ ghost use Rattle.positions.specs.Rising.{rising};
 ghost use Rattle.positions.specs.Encode.{encode};
 ghost use Rattle.positions.specs.Promise.{size_gives, size_answer, Writes};
 
-use crate::{ByteCount, LIMIT, WriteRefusal, Written, number};
+use crate::{LIMIT, WriteRefusal, number};
 
 // How many bytes the file of a list has, or that the writer does not take it.
-pub fn size(list: &[u32]) -> ByteCount
+pub fn size(list: &[u32]) -> Result<usize, WriteRefusal>
     ensures { size_gives result ≡ size_answer list.now }
 {
     let mut bytes: usize = 0;
     let mut next: u32 = 0;
-    let mut i: usize = 0;
-    while i < list.len() {
-        let p = list[i];
+    for &p in list {
         if p < next {
-            return ByteCount::Refused(WriteRefusal::ListNotRising);
+            return Err(WriteRefusal::ListNotRising);
         }
         if LIMIT <= p {
-            return ByteCount::Refused(WriteRefusal::ListNotRising);
+            return Err(WriteRefusal::ListNotRising);
         }
         bytes += number::size(p - next);
         next = p + 1;
-        i += 1;
     }
-    bytes += number::size(list.len() as u32);
-    ByteCount::Bytes(bytes)
+    Ok(bytes + number::size(list.len() as u32))
 }
 
 // Whether the positions rise strictly and are below 2^30. Where each is above the one before it, the last is the largest,
@@ -35,16 +31,14 @@ pub fn size(list: &[u32]) -> ByteCount
 pub fn rises(list: &[u32]) -> bool
     ensures { result ≡ rising list.now }
 {
-    if list.len() == 0 {
+    let Some((&first, others)) = list.split_first() else {
         return true;
-    }
+    };
     let mut good = true;
-    let mut i: usize = 1;
-    while i < list.len() {
-        good = good & (list[i - 1] < list[i]);
-        i += 1;
+    for (&p, &next) in list.iter().zip(others) {
+        good = good & (p < next);
     }
-    good & (list[list.len() - 1] < LIMIT)
+    good & (*others.last().unwrap_or(&first) < LIMIT)
 }
 
 // Stores the file of a list that the writer takes into a target that has room for it.
@@ -55,28 +49,20 @@ fn store(list: &[u32], target: &mut [u8])
 {
     let mut at = number::put(target, 0, list.len() as u32);
     let mut next: u32 = 0;
-    let mut i: usize = 0;
-    while i < list.len() {
-        let p = list[i];
+    for &p in list {
         at = number::put(target, at, p - next);
         next = p + 1; // so a later number is the distance less 1
-        i += 1;
     }
 }
 
 // Writes the file of a list to the front of the target. What lies after it stays.
-pub fn write(list: &[u32], target: &mut [u8]) -> Written
+pub fn write(list: &[u32], target: &mut [u8]) -> Result<usize, WriteRefusal>
     ensures { Writes list.now target.old result target.new }
 {
-    let needed = size(list);
-    match needed {
-        ByteCount::Refused(why) => Written::Refused(why),
-        ByteCount::Bytes(n) => {
-            if target.len() < n {
-                return Written::Refused(WriteRefusal::TargetTooShort);
-            }
-            store(list, target);
-            Written::Bytes(n)
-        }
+    let needed = size(list)?;
+    if target.len() < needed {
+        return Err(WriteRefusal::TargetTooShort);
     }
+    store(list, target);
+    Ok(needed)
 }

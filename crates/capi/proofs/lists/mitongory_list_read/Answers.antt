@@ -10,12 +10,12 @@ pub returns-then-answer-lt1 : goal.returns-then-answer-lt1
 unfolding read_answer read_cells
 returns-then-answer-lt1 c = read (none_filled c.if-answer-lt1.true refl)
 
-pub returns-in-Refused : goal.returns-in-Refused
-returns-in-Refused c =
-    let told = rw c.in-Refused.is at c.read-read.ensures.answer in
+pub returns-in-Err : goal.returns-in-Err
+returns-in-Err c =
+    let told = rw c.in-Err.is at c.read-read.ensures.answer in
     read (refusal_filled c.if-answer-lt1.false (ap count_tells told) c.read-read.ensures.cells c.number.ensures)
 
-pub returns-in-Count : goal.returns-in-Count
-returns-in-Count c =
-    let told = rw c.in-Count.is at c.read-read.ensures.answer in
+pub returns-in-Ok : goal.returns-in-Ok
+returns-in-Ok c =
+    let told = rw c.in-Ok.is at c.read-read.ensures.answer in
     read (number_filled c.if-answer-lt1.false (ap count_tells told) c.read-read.ensures.cells c.one.ensures)

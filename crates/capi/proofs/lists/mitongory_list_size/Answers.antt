@@ -9,14 +9,14 @@ pub returns-then-answer-lt1 : goal.returns-then-answer-lt1
 unfolding size_told
 returns-then-answer-lt1 c = none_told count_tells _ _ _ c.if-answer-lt1.true refl
 
-pub returns-in-Refused : goal.returns-in-Refused
+pub returns-in-Err : goal.returns-in-Err
 unfolding size_told
-returns-in-Refused c =
-    let told = rw c.in-Refused.is at c.size-needed.ensures in
+returns-in-Err c =
+    let told = rw c.in-Err.is at c.size-needed.ensures in
     refusal_told count_tells _ _ _ c.if-answer-lt1.false (ap count_tells told) c.number.ensures
 
-pub returns-in-Bytes : goal.returns-in-Bytes
+pub returns-in-Ok : goal.returns-in-Ok
 unfolding size_told
-returns-in-Bytes c =
-    let told = rw c.in-Bytes.is at c.size-needed.ensures in
+returns-in-Ok c =
+    let told = rw c.in-Ok.is at c.size-needed.ensures in
     number_told count_tells _ _ _ c.if-answer-lt1.false (ap count_tells told) c.one.ensures

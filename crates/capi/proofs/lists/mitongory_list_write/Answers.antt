@@ -10,12 +10,12 @@ pub returns-then-answer-lt1 : goal.returns-then-answer-lt1
 unfolding leaves
 returns-then-answer-lt1 c = written (none_filled c.if-answer-lt1.true refl)
 
-pub returns-in-Refused : goal.returns-in-Refused
-returns-in-Refused c =
-    let told = rw c.in-Refused.is at c.write-written.ensures.answer in
+pub returns-in-Err : goal.returns-in-Err
+returns-in-Err c =
+    let told = rw c.in-Err.is at c.write-written.ensures.answer in
     written (refusal_filled c.if-answer-lt1.false (ap count_tells told) c.write-written.ensures.target c.number.ensures)
 
-pub returns-in-Bytes : goal.returns-in-Bytes
-returns-in-Bytes c =
-    let told = rw c.in-Bytes.is at c.write-written.ensures.answer in
+pub returns-in-Ok : goal.returns-in-Ok
+returns-in-Ok c =
+    let told = rw c.in-Ok.is at c.write-written.ensures.answer in
     written (number_filled c.if-answer-lt1.false (ap count_tells told) c.write-written.ensures.target c.one.ensures)

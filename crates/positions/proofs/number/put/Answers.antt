@@ -1,5 +1,5 @@
 use Prim.Native.Nat.{ℕ, ◌+◌, ◌%◌, ◌/◌}
-use mathlib.Core.Path.{refl, sym, ap, ◌∙◌}
+use mathlib.Core.Path.{sym, ap, ◌∙◌}
 use mathlib.Core.List.{List}
 use native.Mathlib.Omega.{arith}
 use lib.Seq.{sets}
@@ -9,23 +9,11 @@ use Rattle.positions.proofs.Stores.{sets_cons}
 use Rattle.positions.proofs.number.put.Goals as goal
 use Rattle.positions.proofs.number.put.Goals.{Start}
 
-pub loop-rest-init : goal.loop-rest-init
-loop-rest-init c = (refl, refl, refl)
-
-pub overflow_add-rest : goal.overflow_add-rest
-overflow_add-rest c = omega arith
-
-pub overflow_cast-rest : goal.overflow_cast-rest
-overflow_cast-rest c = omega arith
-
 pub put_byte-requires : goal.put_byte-requires
 put_byte-requires c = omega (arith, size_pos c.loop-rest.rest, c.loop-rest.invariant, c.requires)
 
 pub overflow_add-at : goal.overflow_add-at
 overflow_add-at c = omega (arith, size_pos c.loop-rest.rest, c.loop-rest.invariant, (goal.at.overflow_add-at c).Start)
-
-pub loop-rest-smaller : goal.loop-rest-smaller
-loop-rest-smaller c = omega arith
 
 pub loop-rest-preserved : goal.loop-rest-preserved
 loop-rest-preserved c =
@@ -40,9 +28,6 @@ loop-rest-preserved c =
           ∙ sym (ap (sets l.target l.at) (more_bytes l.rest big))
           ∙ l.invariant.2,
     )
-
-pub overflow_cast-rest-2 : goal.overflow_cast-rest-2
-overflow_cast-rest-2 c = omega arith
 
 pub put_byte-requires-2 : goal.put_byte-requires-2
 put_byte-requires-2 c = omega (arith, size_pos c.loop-rest.rest, c.loop-rest.invariant, c.requires)

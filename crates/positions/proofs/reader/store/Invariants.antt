@@ -1,23 +1,17 @@
--- `positions::reader::store` meets its contract. The loop's invariant: the positions from the index reached, stored after those
--- passed, give what all of them stored from the first cell give. The measure is how many positions are left. No fault is found,
--- since the body was judged good.
+-- `positions::reader::store` meets its contract. The loop's invariant: the positions of the bytes that are left come after those
+-- stored, and no fault is found in them, since the body was judged good.
 -- Assumes nothing.
-use Prim.Native.Nat.{◌+◌, ◌≤◌}
+use Prim.Native.Nat.{◌-◌, ◌≤◌}
 use mathlib.Core.Path.{◌≡◌}
 use mathlib.Core.Bool.{true}
-use lib.ListN.{length, drop}
-use lib.Seq.{sets}
+use mathlib.Core.List.{◌++◌}
+use lib.ListN.{length, take}
 use Rattle.positions.specs.Basics.{limit}
 use Rattle.positions.specs.Decode.{read_body}
 use Rattle.positions.specs.Inner.{accepts, positions_of}
 use Rattle.positions.proofs.reader.store.Given as goal
 
-abbrev pub invariant-loop-left : goal.invariant-loop-left
-invariant-loop-left l = (accepts (read_body l.left l.next (drop l.at l.file)) ≡ true)
-    × (sets l.cells l.i (positions_of (read_body l.left l.next (drop l.at l.file))) ≡ sets l.initial.cells 0 (positions_of (read_body l.count 0 (drop l.start l.file))))
-    × (length l.cells ≡ length l.initial.cells)
-    × (l.i + l.left ≡ l.count)
+abbrev pub invariant-loop-cell : goal.invariant-loop-cell
+invariant-loop-cell l = (accepts (read_body (length l.cells - l.cell-index) l.next l.rest) ≡ true)
+    × (take l.cell-index l.cells ++ positions_of (read_body (length l.cells - l.cell-index) l.next l.rest) ≡ positions_of (read_body (length l.cells) 0 l.body))
     × (l.next ≤ limit)
-
-abbrev pub decreases-loop-left : goal.decreases-loop-left
-decreases-loop-left l = l.left

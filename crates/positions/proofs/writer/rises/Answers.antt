@@ -1,54 +1,66 @@
-use Prim.Native.Nat.{◌+◌, ◌-◌}
-use mathlib.Core.Path.{◌≡◌, sym, ap, ◌∙◌}
+use Prim.Native.Nat.{ℕ, ◌+◌, ◌≤◌}
+use mathlib.Core.Path.{◌≡◌, refl, sym, ap, ◌∙◌}
 use mathlib.Core.Bool.{◌&&◌, and-true}
+use mathlib.Core.Logic.{inl, inr}
+use mathlib.Core.List.{[], ◌∷◌, ◌++◌}
 use native.Mathlib.Omega.{arith}
 use lib.Dec.{ltb}
-use lib.ListN.{length, get_or}
+use lib.ListN.{length, get_or, length-append, length-drop}
+use Rattle.std.specs.Prelude.{Option, Some, None}
+use Rattle.std.specs.Borrow.{Bor}
+use Rattle.std.specs.Option.{unwrap_or, option_copied}
+use Rattle.std.proofs.lemmas.Option.{unwrap_or-slice_get}
 use Rattle.positions.specs.Basics.{limit}
-use Rattle.positions.proofs.Rising.{found_here, rises_first, rises_end, rises_none}
+use Rattle.positions.proofs.Rising.{next, last_of, found_here, rises_first, rises_none, rises_end}
 use Rattle.positions.proofs.writer.rises.Goals as goal
 
-pub returns-then-list-eq0 : goal.returns-then-list-eq0
-returns-then-list-eq0 c = sym (rises_none c.args.list.now (omega arith))
+pub returns-in_default : goal.returns-in_default
+returns-in_default c = sym (rises_none c.args.list.now c.in_default.ensures.cases)
 
-pub loop-i-init : goal.loop-i-init
-loop-i-init c = (omega arith, omega arith, rises_first c.args.list.now (omega arith))
-
-pub overflow_sub-good : goal.overflow_sub-good
-overflow_sub-good c = omega arith
-
-pub bounds-list-i : goal.bounds-list-i
-bounds-list-i c = omega arith
-
-pub bounds-list-i-in-loop-i : goal.bounds-list-i-in-loop-i
-bounds-list-i-in-loop-i c = omega arith
-
-pub overflow_add-i : goal.overflow_add-i
-overflow_add-i c = omega arith
-
-pub loop-i-smaller : goal.loop-i-smaller
-loop-i-smaller c = omega arith
-
-pub loop-i-preserved : goal.loop-i-preserved
-loop-i-preserved c =
+pub loop-p-init : goal.loop-p-init
+loop-p-init c =
     let list = c.args.list.now in
-    let l = c.loop-i in
-    let back : l.i + 1 - 1 ≡ l.i = omega arith in
-    (omega arith, omega arith, rw back (found_here list l.i c.loop-i-test.true l.good (get_or list (l.i - 1) 0) ∙ l.invariant.2))
+    let e = c.into_iter-p-iterator.ensures.into_iter_gives in
+    let others = next list 0 _ _ c.in-Some.ensures.cases.0 in (
+      others.inside,
+      rw (e, c.zip-p-items.ensures.first) c.iter.ensures.rest,
+      rw e (c.zip-p-items.ensures.second.0 ∙ others.rest_is),
+      rises_first list others.inside,
+    )
 
-pub overflow_sub-result : goal.overflow_sub-result
-overflow_sub-result c = omega arith
+pub loop-p-preserved : goal.loop-p-preserved
+loop-p-preserved c =
+    let list = c.args.list.now in
+    let l = c.loop-p in
+    let k = length l.yielded in
+    let p = next list k _ _ (sym l.invariant.1 ∙ c.in-Some-2.ensures.steps.0) in
+    let q = next list (k + 1) _ _ (sym l.invariant.2 ∙ c.in-Some-2.ensures.steps.1) in
+    let more : length (l.yielded ++ (c.in-Some-2.field-0-0, c.in-Some-2.field-0-1) ∷ []) ≡ k + 1 = length-append l.yielded _ in
+    rw more (q.inside, p.rest_is, q.rest_is, rw (p.first_is, q.first_is) (found_here list (k + 1) q.inside l.good (get_or list k 0) ∙ l.invariant.3))
 
-pub bounds-list-list : goal.bounds-list-list
-bounds-list-list c = omega arith
+copied_or : (r : Option (Bor ℕ)) (x : Bor ℕ) → (unwrap_or r x).now ≡ unwrap_or (option_copied r) x.now
+copied_or None x = refl
+copied_or (Some y) x = refl
 
 pub returns : goal.returns
 returns c =
     let list = c.args.list.now in
-    let l = c.loop-i in
-    let end : l.i ≡ length list = omega arith in
-    let last = get_or list (l.i - 1) 0 in
-    ap (λ k. l.good && ltb (get_or list (k - 1) 0) limit) (sym end)
-    ∙ ap (λ b. l.good && b) (sym (and-true (ltb last limit)))
-    ∙ ap (λ b. l.good && (ltb last limit && b)) (sym (rises_end list l.i (omega arith) (last + 1)))
-    ∙ l.invariant.2
+    let l = c.loop-p in
+    let k = length l.yielded in
+    let all = c.in-Some.ensures.cases.0 in
+    let past : length list ≤ k + 1 = elim c.in-None.ensures.steps [
+      | inl x ↦ omega (arith, ap length l.invariant.1, length-drop k list, x.1.0)
+      | inr x ↦ omega (arith, ap length l.invariant.2, length-drop (k + 1) list, x.1.0)
+    ] in
+    let at : length c.in-Some.others.now ≡ k = omega (arith, ap length all) in
+    let last : c.unwrap_or.result.now ≡ get_or list k 0 =
+    ap (λ (x : Bor ℕ). x.now) c.unwrap_or.ensures
+    ∙ copied_or c.last.result _
+    ∙ ap (λ (o : Option ℕ). unwrap_or o c.in-Some.field-0-0.now) c.last.ensures.value
+    ∙ unwrap_or-slice_get c.in-Some.others.now _ _
+    ∙ last_of c.in-Some.field-0-0.now c.in-Some.others.now
+    ∙ (λ j. get_or (sym all j) (at j) 0) in
+    rw last
+    (ap (λ b. l.good && b) (sym (and-true (ltb (get_or list k 0) limit)))
+    ∙ ap (λ b. l.good && (ltb (get_or list k 0) limit && b)) (sym (rises_end list (k + 1) past (get_or list k 0 + 1)))
+    ∙ l.invariant.3)
