@@ -25,7 +25,7 @@ use Rattle.positions.specs.Basics.{limit}
 use Rattle.positions.specs.Rising.{rising}
 use Rattle.positions.proofs.StrictlyRising.{strict_is_rising}
 use Rattle.marking.specs.declared.Totals.{Totals}
-use Rattle.marking.specs.declared.Marked.TheVariants.{Accepted}
+use Rattle.std.specs.Prelude.{Ok}
 use Rattle.marking.specs.Marks.{on, keep, filter, both, marks}
 use Rattle.marking.specs.Promise.{MarksSitting}
 use Rattle.marking.specs.Holds.{sheet_at}
@@ -137,7 +137,7 @@ searched_key t w calls m h = is_key t w (taken t w 0 calls done m h) (library.jo
 
 -- and a sitting marked against it by a call: the first cell of every sheet counts just the occurrences on the sheet
 pub right_searched : (t : Packed) (w : Pattern) (calls : List library.Call) (sheets counts before after : List ℕ) (u : Totals)
-    → library.Made t w 0 calls → library.last_stop calls ≡ some done → MarksSitting (library.joined calls) sheets counts before (Accepted u) after
+    → library.Made t w 0 calls → library.last_stop calls ≡ some done → MarksSitting (library.joined calls) sheets counts before (Ok u) after
     → RightOccur t w sheets counts after
 unfolding marks
 right_searched t w calls sheets counts before after u m h s i k =

@@ -2,7 +2,6 @@
 ghost use Rattle.capi.specs.Sitting.{SittingMarked};
 
 use crate::{ANSWER_CELLS_MISSING, cells};
-use marking::Marked;
 
 // Marks each sheet against the key: three report cells for each, and the totals of these columns.
 #[unsafe(no_mangle)]
@@ -20,7 +19,7 @@ pub extern "C" fn mitongory_mark_sitting(
     }
     let marked = marking::mark_sitting(key, sheets, counts, report);
     match marked {
-        Marked::Refused(why) => why.number(),
-        Marked::Accepted(t) => cells::three(answer, t.right, t.missed, t.false_positives),
+        Err(why) => why.number(),
+        Ok(t) => cells::three(answer, t.right, t.missed, t.false_positives),
     }
 }

@@ -6,19 +6,19 @@ use draws::cells::{get32, get64, put32, put64};
 use draws::draw::{choose, draw, entry};
 use draws::number::{least_of, minus, plus, small};
 use draws::{cells, draw};
-use marking::Marked;
+use marking::{MarkRefusal, Totals};
 
 // The library's answer.
-fn answered(answer: Marked) -> Sitting {
+fn answered(answer: Result<Totals, MarkRefusal>) -> Sitting {
     match answer {
-        Marked::Accepted(t) => Sitting {
+        Ok(t) => Sitting {
             good: true,
             refused: 0,
             right: t.right as usize,
             missed: t.missed as usize,
             false_positives: t.false_positives as usize,
         },
-        Marked::Refused(why) => marker::none(why.number() as usize),
+        Err(why) => marker::none(why.number() as usize),
     }
 }
 

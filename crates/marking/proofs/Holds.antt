@@ -13,7 +13,7 @@ use lib.Seq.{get_or-append-add, get_or-drop, length-take-le}
 use Rattle.positions.specs.Rising.{rising}
 use Rattle.positions.proofs.Rising.{and_both}
 use Rattle.marking.specs.declared.Totals.{Totals}
-use Rattle.marking.specs.declared.Marked.TheVariants.{Accepted}
+use Rattle.std.specs.Prelude.{Ok}
 use Rattle.marking.specs.Marks.{Marks, marks}
 use Rattle.marking.specs.Sitting.{sum, sheets_of, all_rise, all_marks, report_of, totals_of, Verdict, refused, marked, verdict}
 use Rattle.marking.specs.Promise.{totalled, answer_of, report_after, MarksSitting}
@@ -191,7 +191,7 @@ pub record Accepts (key cells counts before after : List ℕ) (t : Totals) : Typ
   pub holds : Holds key cells counts before after (totalled t)
   pub sheets_rise : (i : ℕ) → i < length counts → rising (sheet_at cells counts i) ≡ true
 
-pub accepted_holds : (key cells counts before after : List ℕ) (t : Totals) → MarksSitting key cells counts before (Accepted t) after
+pub accepted_holds : (key cells counts before after : List ℕ) (t : Totals) → MarksSitting key cells counts before (Ok t) after
     → Accepts key cells counts before after t
 accepted_holds key cells counts before after t m = go (verdict key cells counts (length before)) refl
   where
@@ -205,6 +205,6 @@ accepted_holds key cells counts before after t m = go (verdict key cells counts 
           sheets_rise = λ i h. sheet_rises counts cells i h j.sheets_rise;
         }
 
-pub holds : (key cells counts before after : List ℕ) (t : Totals) → MarksSitting key cells counts before (Accepted t) after
+pub holds : (key cells counts before after : List ℕ) (t : Totals) → MarksSitting key cells counts before (Ok t) after
     → Holds key cells counts before after (totalled t)
 holds key cells counts before after t m = (accepted_holds key cells counts before after t m).holds

@@ -2,15 +2,14 @@
 use Prim.Native.Nat.{ℕ, ◌+◌, ◌≤◌, ◌<◌}
 use mathlib.Core.Path.{◌≡◌, sym, ap, subst, ◌∙◌}
 use mathlib.Core.Bool.{true, false, ◌&&◌, false≢true}
-use mathlib.Core.List.{List, [], ◌∷◌, ◌++◌}
+use mathlib.Core.List.{List, ◌∷◌, ◌++◌}
 use native.Mathlib.Omega.{arith}
-use native.Mathlib.Numerals.{add-one}
 use native.Mathlib.Decide.{dec_lt}
 use borrow.Author.Tests.{lt-ltb, le-ltb, ltb-true}
 use mir.Val.{bool_byte}
 use lib.Dec.{ltb}
 use lib.ListN.{length, get_or, take, drop, length-append, length-drop, take-append-drop, drop_of_length-le}
-use lib.Seq.{length-take-le, take-suc, get_or-drop, drop-drop}
+use lib.Seq.{length-take-le, drop-drop}
 use Rattle.positions.specs.Rising.{rises_from, rising}
 use Rattle.positions.proofs.Rising.{and_both, here, taken_here, rises_rest}
 use Rattle.marking.specs.Marks.{filter, both}
@@ -111,10 +110,6 @@ module _ (key sheet : List ℕ) (i j : ℕ) (k : i < length key) (s : j < length
       ]
 
 -- ---- positions that are the same in both lists
-
--- one more position of a part
-pub take_more : (l : List ℕ) (i k : ℕ) → i + k < length l → take (k + 1) (drop i l) ≡ take k (drop i l) ++ (get_or l (i + k) 0 ∷ [])
-take_more l i k h = rw (add-one k, take-suc (drop i l) k 0 (simp length-drop (omega arith)), get_or-drop i l k 0)
 
 module _ (key sheet : List ℕ) (i j n : ℕ) (k : i + n ≤ length key) (e : rising key ≡ true) (eq : take n (drop i key) ≡ take n (drop j sheet)) where
   pub same_counted : n + length (both (drop (i + n) key) (drop (j + n) sheet)) ≡ length (both (drop i key) (drop j sheet))

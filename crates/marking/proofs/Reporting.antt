@@ -1,5 +1,5 @@
 -- Laws of what a sheet comes to, and of the report and its totals at an index.
-use Prim.Native.Nat.{ℕ, ◌+◌, ◌*◌, ◌-◌, ◌≤◌, ◌<◌}
+use Prim.Native.Nat.{ℕ, ◌+◌, ◌*◌, ◌≤◌, ◌<◌}
 use mathlib.Core.Path.{◌≡◌, refl, sym, ap}
 use mathlib.Core.Bool.{true}
 use mathlib.Core.List.{List, [], ◌∷◌}
@@ -13,7 +13,7 @@ use Rattle.positions.proofs.Stores.{sets_append}
 use Rattle.marking.specs.Marks.{Marks, marks}
 use Rattle.marking.specs.Sitting.{sum, all_marks, report_of, totals_of}
 use Rattle.marking.proofs.Members.{both_only, both_swap}
-use Rattle.marking.proofs.Counting.{part_is, sheets_here, sheets_end}
+use Rattle.marking.proofs.Counting.{sheets_here, sheets_end}
 
 -- ---- one sheet
 
@@ -61,11 +61,11 @@ small key sheet e f =
 -- ---- the sheets that are left
 
 module _ (counts : List ℕ) (i : ℕ) (h : i < length counts) where
-  pub marks_here : (key cells : List ℕ) (at : ℕ)
-      → all_marks key (drop at cells) (drop i counts)
-      ≡ marks key (take (at + get_or counts i 0 - at) (drop at cells)) ∷ all_marks key (drop (at + get_or counts i 0) cells) (drop (i + 1) counts)
+  pub marks_here : (key cells : List ℕ)
+      → all_marks key cells (drop i counts)
+      ≡ marks key (take (get_or counts i 0) cells) ∷ all_marks key (drop (get_or counts i 0) cells) (drop (i + 1) counts)
   unfolding all_marks
-  marks_here key cells at = rw (sheets_here counts i h cells at, part_is cells at (get_or counts i 0))
+  marks_here key cells = rw (sheets_here counts i h cells)
 
 pub marks_end : (counts : List ℕ) (i : ℕ) → length counts ≤ i → (key cells : List ℕ) → all_marks key cells (drop i counts) ≡ []
 unfolding all_marks

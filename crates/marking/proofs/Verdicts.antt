@@ -15,7 +15,7 @@ use Rattle.marking.specs.Sitting.{sum, sheets_of, all_rise, all_marks, report_of
 use Rattle.marking.specs.Promise.{totals, mark_refusal, totalled, answer_of, report_after, MarksSitting}
 use Rattle.marking.specs.declared.MarkRefusal.{MarkRefusal}
 use Rattle.marking.specs.declared.Totals.{Totals}
-use Rattle.marking.specs.declared.Marked.TheVariants.{Accepted, Refused}
+use Rattle.std.specs.Prelude.{Ok, Err}
 
 -- ---- the first condition that holds
 
@@ -72,13 +72,13 @@ length_report (m ∷ ms) = omega (arith, length_report ms)
 
 module _ (key cells counts before : List ℕ) where
   pub marks_refused : (why : MarkRefusal) → verdict key cells counts (length before) ≡ refused (mark_refusal why)
-      → MarksSitting key cells counts before (Refused why) before
+      → MarksSitting key cells counts before (Err why) before
   marks_refused why e = record { answer = sym (ap answer_of e); report = sym (ap (λ (v : Verdict). report_after v before) e) }
 
   pub marks_all : (t : Totals) → verdict key cells counts (length before) ≡ marked (all_marks key cells counts)
       → totalled t ≡ totals_of (all_marks key cells counts)
       → 3 * length counts ≤ length before
-      → MarksSitting key cells counts before (Accepted t) (sets before 0 (report_of (all_marks key cells counts)))
+      → MarksSitting key cells counts before (Ok t) (sets before 0 (report_of (all_marks key cells counts)))
   marks_all t e s h =
       let ms = all_marks key cells counts in
       let long : length (report_of ms) ≤ length before = omega (arith, length_report ms, length_marks key counts cells) in

@@ -1,20 +1,13 @@
 -- What the private functions promise each other: no public promise rests on it.
-use Rattle.std.specs.Prelude.{ℕ, ◌+◌, ◌≤◌, ◌<◌, ◌≡◌, List, length, drop}
-use Rattle.marking.specs.Marks.{both, marks}
+use Rattle.std.specs.Prelude.{ℕ, ◌+◌, ◌≤◌, ◌≡◌, List, length, take, drop}
+use Rattle.marking.specs.Marks.{marks}
 use Rattle.marking.specs.declared.report.SheetMarks.{SheetMarks}
 
--- A part of the merge, from two indices on: it comes to two others, inside the lists and not both the same; what it counts, which is no
--- more than it passes in the key, is what the two lists share from the first indices on but not from the others on; and a number of
--- steps to make next.
-pub record Passed (key sheet : List ℕ) (i j i' j' right count : ℕ) : Type 0 where
-  pub on_key : i ≤ i'
-  pub in_key : i' ≤ length key
-  pub on_sheet : j ≤ j'
-  pub in_sheet : j' ≤ length sheet
-  pub onward : i + j < i' + j'
-  pub counted : right + length (both (drop i' key) (drop j' sheet)) ≡ length (both (drop i key) (drop j sheet))
-  pub few : right + i ≤ i'
-  pub some_steps : 0 < count
+-- the next eight positions, from an index of each list on, are there and are the same
+pub record EightSame (key sheet : List ℕ) (i j : ℕ) : Type 0 where
+  pub in_key : i + 8 ≤ length key
+  pub in_sheet : j + 8 ≤ length sheet
+  pub same : take 8 (drop i key) ≡ take 8 (drop j sheet)
 
 -- what a sheet comes to, as numbers of 32 bits
 pub record Sheet (key sheet : List ℕ) (m : SheetMarks) : Type 0 where

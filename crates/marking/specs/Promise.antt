@@ -1,10 +1,8 @@
 -- What the call promises: the number of each refusal, the answer, and the report at exit.
-use Rattle.std.specs.Prelude.{ℕ, ◌≡◌, List, ◌++◌, length, drop}
+use Rattle.std.specs.Prelude.{ℕ, ◌≡◌, Result, Ok, Err, List, ◌++◌, length, drop}
 use Rattle.marking.specs.declared.MarkRefusal.{MarkRefusal}
 use Rattle.marking.specs.declared.MarkRefusal.TheVariants.{TooManySheets, CountsDiffer, ListNotRising, TargetTooShort}
 use Rattle.marking.specs.declared.Totals.{Totals}
-use Rattle.marking.specs.declared.Marked.{Marked}
-use Rattle.marking.specs.declared.Marked.TheVariants.{Accepted, Refused}
 use Rattle.marking.specs.Marks.{Marks}
 use Rattle.marking.specs.Sitting.{Verdict, refused, marked, verdict, report_of, totals_of}
 
@@ -24,9 +22,9 @@ mark_refusal TargetTooShort = 9
 abbrev pub totalled : Totals → Marks
 totalled t = record { right = t.right; missed = t.missed; false_positives = t.false_positives }
 
-abbrev pub mark_gives : Marked → Answer
-mark_gives (Accepted t) = totals (totalled t)
-mark_gives (Refused r) = number (mark_refusal r)
+abbrev pub mark_gives : Result Totals MarkRefusal → Answer
+mark_gives (Ok t) = totals (totalled t)
+mark_gives (Err r) = number (mark_refusal r)
 
 -- ---- the answer and the report, by the verdict
 
@@ -40,6 +38,6 @@ report_after (refused k) before = before
 report_after (marked ms) before = report_of ms ++ drop (length (report_of ms)) before
 
 -- the promise of `mark_sitting`, for a report that is `before` at entry and `after` at exit
-pub record MarksSitting (key sheets counts before : List ℕ) (r : Marked) (after : List ℕ) : Type 0 where
+pub record MarksSitting (key sheets counts before : List ℕ) (r : Result Totals MarkRefusal) (after : List ℕ) : Type 0 where
   pub answer : mark_gives r ≡ answer_of (verdict key sheets counts (length before))
   pub report : after ≡ report_after (verdict key sheets counts (length before)) before

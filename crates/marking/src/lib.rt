@@ -10,11 +10,13 @@ mod report;
 ghost use Rattle.std.specs.Prelude.{◌≡◌};
 ghost use Rattle.marking.specs.Promise.{mark_refusal, MarksSitting};
 
+use judge::Rising;
+
 // No more sheets than this are marked in one call.
 const SHEETS: usize = 256;
 
 // Why a sitting is not marked.
-#[derive(Clone, Copy)]
+#[derive(Clone, Copy, PartialEq, Eq, Debug)]
 pub enum MarkRefusal {
     // There are more than 256 sheets.
     TooManySheets,
@@ -27,7 +29,7 @@ pub enum MarkRefusal {
 }
 
 impl MarkRefusal {
-    // The number of the refusal, by documents 01 and 02.
+    // The number of the refusal, by documents 01 and 02, which C is told.
     pub fn number(self) -> u32
         ensures { result ≡ mark_refusal self }
     {
@@ -42,36 +44,37 @@ impl MarkRefusal {
 
 // The columns of the report, added up over the sitting. What document 02 calls false are the false positives: the
 // positions that are on a sheet only.
-#[derive(Clone, Copy)]
+#[derive(Clone, Copy, PartialEq, Eq, Debug)]
 pub struct Totals {
     pub right: u64,
     pub missed: u64,
     pub false_positives: u64,
 }
 
-// The answer to a sitting.
-#[derive(Clone, Copy)]
-pub enum Marked {
-    Accepted(Totals),
-    Refused(MarkRefusal),
-}
-
 // Marks each sheet in turn: the report gets three cells for it, right, missed and false, and the cells after those stay.
 // The sheets lie one after the other in one run of cells, and `counts` says how many cells each has.
-pub fn mark_sitting(key: &[u32], sheets: &[u32], counts: &[u64], target: &mut [u32]) -> Marked
+pub fn mark_sitting(
+    key: &[u32],
+    sheets: &[u32],
+    counts: &[u64],
+    target: &mut [u32],
+) -> Result<Totals, MarkRefusal>
     ensures { MarksSitting key.now sheets.now counts.now target.old result target.new }
 {
     if SHEETS < counts.len() {
-        return Marked::Refused(MarkRefusal::TooManySheets);
+        return Err(MarkRefusal::TooManySheets);
     }
     if !judge::add_up(counts, sheets.len()) {
-        return Marked::Refused(MarkRefusal::CountsDiffer);
+        return Err(MarkRefusal::CountsDiffer);
     }
-    if !judge::all_rise(key, sheets, counts) {
-        return Marked::Refused(MarkRefusal::ListNotRising);
+    let Some(key) = Rising::judge(key) else {
+        return Err(MarkRefusal::ListNotRising);
+    };
+    if !judge::all_rise(sheets, counts) {
+        return Err(MarkRefusal::ListNotRising);
     }
     if target.len() < 3 * counts.len() {
-        return Marked::Refused(MarkRefusal::TargetTooShort);
+        return Err(MarkRefusal::TargetTooShort);
     }
-    Marked::Accepted(report::write(key, sheets, counts, target))
+    Ok(report::write(key, sheets, counts, target))
 }

@@ -1,11 +1,11 @@
 // The report of a sitting that was judged good: three cells for each sheet, and the totals of the columns.
 ghost use Rattle.std.specs.Prelude.{◌≡◌, true, [], ◌∷◌, ◌+◌, ◌*◌, ◌≤◌, length};
 ghost use Rattle.std.proofs.lemmas.List.Edits.{sets};
-ghost use Rattle.positions.specs.Rising.{rising};
 ghost use Rattle.marking.specs.Sitting.{sum, sheets_of, all_rise, all_marks, report_of, totals_of};
 ghost use Rattle.marking.specs.Promise.{totalled};
 ghost use Rattle.marking.specs.Inner.{Sheet};
 
+use crate::judge::Rising;
 use crate::{Totals, merge};
 
 // What one sheet comes to.
@@ -17,20 +17,19 @@ pub(crate) struct SheetMarks {
 }
 
 // Marks one sheet. Each list is its shared positions and the others, so that the merge need count the shared ones alone.
-fn sheet_marks(key: &[u32], sheet: &[u32]) -> SheetMarks
-    requires key_rises { rising key.now ≡ true }
-    requires sheet_rises { rising sheet.now ≡ true }
-    ensures { Sheet key.now sheet.now result }
+fn sheet_marks(key: Rising, sheet: Rising) -> SheetMarks
+    ensures { Sheet key.entry.list.now sheet.entry.list.now result }
 {
     let right = merge::right(key, sheet);
     SheetMarks {
         right: right as u32,
-        missed: (key.len() - right) as u32,
-        false_positives: (sheet.len() - right) as u32,
+        missed: (key.list.len() - right) as u32,
+        false_positives: (sheet.list.len() - right) as u32,
     }
 }
 
-// Stores the three cells of a sheet.
+// Stores the three cells of a sheet, by three stores: `copy_from_slice` makes an array of them first, and small sheets took up to
+// a third longer.
 fn put(target: &mut [u32], at: usize, m: SheetMarks)
     requires { at + 3 ≤ length target.old }
     ensures { target.new ≡ sets target.old at (m.right ∷ m.missed ∷ m.false_positives ∷ []) }
@@ -41,33 +40,28 @@ fn put(target: &mut [u32], at: usize, m: SheetMarks)
 }
 
 // Marks every sheet in turn.
-pub(crate) fn write(key: &[u32], sheets: &[u32], counts: &[u64], target: &mut [u32]) -> Totals
+pub(crate) fn write(key: Rising, sheets: &[u32], counts: &[u64], target: &mut [u32]) -> Totals
     requires few_sheets { length counts.now ≤ 256 }
     requires cells_enough { sum counts.now ≤ length sheets.now }
-    requires key_rises { rising key.now ≡ true }
     requires sheets_rise { all_rise (sheets_of sheets.now counts.now) ≡ true }
     requires report_fits { 3 * length counts.now ≤ length target.old }
-    ensures totals { totalled result ≡ totals_of (all_marks key.now sheets.now counts.now) }
-    ensures stored { target.new ≡ sets target.old 0 (report_of (all_marks key.now sheets.now counts.now)) }
+    ensures totals { totalled result ≡ totals_of (all_marks key.entry.list.now sheets.now counts.now) }
+    ensures stored { target.new ≡ sets target.old 0 (report_of (all_marks key.entry.list.now sheets.now counts.now)) }
 {
-    let mut right: u64 = 0;
-    let mut missed: u64 = 0;
-    let mut false_positives: u64 = 0;
-    let mut at: usize = 0;
-    let mut i: usize = 0;
-    while i < counts.len() {
-        let end = at + counts[i] as usize;
-        let m = sheet_marks(key, &sheets[at..end]);
+    let mut totals = Totals {
+        right: 0,
+        missed: 0,
+        false_positives: 0,
+    };
+    let mut rest = sheets;
+    for (i, &count) in counts.iter().enumerate() {
+        let (sheet, others) = rest.split_at(count as usize);
+        let m = sheet_marks(key, Rising { list: sheet });
         put(target, 3 * i, m);
-        right += m.right as u64;
-        missed += m.missed as u64;
-        false_positives += m.false_positives as u64;
-        at = end;
-        i += 1;
+        totals.right += m.right as u64;
+        totals.missed += m.missed as u64;
+        totals.false_positives += m.false_positives as u64;
+        rest = others;
     }
-    Totals {
-        right: right,
-        missed: missed,
-        false_positives: false_positives,
-    }
+    totals
 }

@@ -10,12 +10,12 @@ use Rattle.capi.proofs.sitting.mitongory_mark_sitting.Goals as goal
 pub returns-then-answer-lt3 : goal.returns-then-answer-lt3
 returns-then-answer-lt3 c = marked (none_filled (omega arith) refl)
 
-pub returns-in-Refused : goal.returns-in-Refused
-returns-in-Refused c =
-    let told = rw c.in-Refused.is at c.mark_sitting-marked.ensures.answer in
+pub returns-in-Err : goal.returns-in-Err
+returns-in-Err c =
+    let told = rw c.in-Err.is at c.mark_sitting-marked.ensures.answer in
     marked (refusal_filled (omega arith) (ap totals_tell told) c.mark_sitting-marked.ensures.report c.number.ensures)
 
-pub returns-in-Accepted : goal.returns-in-Accepted
-returns-in-Accepted c =
-    let told = rw c.in-Accepted.is at c.mark_sitting-marked.ensures.answer in
+pub returns-in-Ok : goal.returns-in-Ok
+returns-in-Ok c =
+    let told = rw c.in-Ok.is at c.mark_sitting-marked.ensures.answer in
     marked (number_filled (omega arith) (ap totals_tell told) c.mark_sitting-marked.ensures.report c.three.ensures)
