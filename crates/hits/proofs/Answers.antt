@@ -3,8 +3,7 @@
 use Prim.Native.Nat.{ℕ, ◌≤◌}
 use mathlib.Core.Path.{◌≡◌, ◌∙◌}
 use mathlib.Core.List.{List}
-use native.Mathlib.Omega.{arith}
-use lib.ListN.{length, take, drop, length-append}
+use lib.ListN.{length, take, drop}
 use lib.Seq.{take-append_seam}
 use Rattle.bits.specs.Packed.{Packed}
 use Rattle.rules.specs.declared.Method.{Method}
@@ -18,7 +17,6 @@ use Rattle.search.specs.declared.Outcome.TheVariants.{Accepted, Refused}
 use Rattle.search.specs.Verdict.{Request, verdict, machine, number_of_refusal, RefusedAs, AcceptedAs, Searched}
 use Rattle.lines.specs.Line.{accepted_line, refused_line}
 use Rattle.hits.specs.Printed.{line_of, search_line}
-use Rattle.hits.specs.Report.{number_in}
 use Rattle.hits.proofs.Enough.{lent, verdict_enough}
 
 refused_line_lem : (x : Method) (q : Request) (r : Refusal) (list scratch : List ℕ) → RefusedAs q r list scratch
@@ -37,10 +35,6 @@ unfolding line_of
 accepted_line_lem x q a list scratch p =
     rw (p.verdict_is, written_first q a list scratch p, p.answer.steps)
 
-accepted_room : (q : Request) (a : Answer) (list scratch : List ℕ) → AcceptedAs q a list scratch → a.occurrences ≤ length list
-accepted_room q a list scratch p =
-    rw (p.answer.occurrences, p.list_is, length-append) (omega arith)
-
 -- a call of the program, from a fresh mark, with cells for all, and the cells that it leaves
 pub record Call (t : Packed) (w : Pattern) (x : Method) (list scratch : List ℕ) (o : Outcome) (after free : List ℕ) : Type 0 where
   pub mark : ℕ
@@ -57,17 +51,12 @@ module _ {t : Packed} {w : Pattern} {x : Method} {list scratch : List ℕ} {o : 
   unfolding search_line
   line_is = rw (verdict_enough t w x list scratch call.cells call.room)
 
-  pub refused_printed : {r : Refusal} {number : ℕ} → o ≡ Refused r → number ≡ number_in o → refused_line x number ≡ search_line t w x
+  pub refused_printed : {r : Refusal} {number : ℕ} → o ≡ Refused r → number ≡ number_of_refusal r → refused_line x number ≡ search_line t w x
   refused_printed {r} is e =
       let q = rw is at as_lent in
-      rw (e, is) (refused_line_lem x (lent t w x list scratch) r after free q ∙ line_is)
+      rw e (refused_line_lem x (lent t w x list scratch) r after free q ∙ line_is)
 
   pub accepted_printed : {a : Answer} → o ≡ Accepted a → accepted_line x a.steps (take a.occurrences after) ≡ search_line t w x
   accepted_printed {a} is =
       let q = rw is at as_lent in
       accepted_line_lem x (lent t w x list scratch) a after free q ∙ line_is
-
-  pub fits : {a : Answer} → o ≡ Accepted a → a.occurrences ≤ length after
-  fits {a} is =
-      let q = rw is at as_lent in
-      accepted_room (lent t w x list scratch) a after free q

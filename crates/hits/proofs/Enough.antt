@@ -26,14 +26,8 @@ use Rattle.hits.specs.Printed.{asked}
 
 -- ---- arrays: their lengths by a law, since computing them counts each cell
 
-pub cells : (n : ℕ) → n ≡ length (replicate {A = ℕ} n 0)
-cells n = sym (length-replicate n 0)
-
 pub holds : (k n : ℕ) → k ≤ n → k ≤ length (replicate {A = ℕ} n 0)
 holds k n h = rw (length-replicate {A = ℕ} n 0) h
-
-pub held : {k : ℕ} (n : ℕ) (l : List ℕ) → length l ≡ length (replicate {A = ℕ} n 0) → k ≤ length l → k ≤ n
-held {k} n l e h = rw (e ∙ length-replicate {A = ℕ} n 0) at h
 
 -- ---- cells
 

@@ -1,13 +1,15 @@
 -- What a buffer holds after reads into it, and what is written for it.
 -- Assumes nothing.
-use Rattle.std.proofs.Common.{◌≡◌, ℕ, ◌+◌, ◌-◌, ◌≤◌, List, ◌++◌, length, take, slice_range, sym, ap, ◌∙◌, subst, le_refl, drop_at, length-take-le, take_all, append-nil, length-append, arith}
+use Rattle.std.proofs.Common.{◌≡◌, ℕ, ◌+◌, ◌-◌, ◌≤◌, List, ◌++◌, length, take, slice_range, sym, ap, ◌∙◌, subst, le_refl, drop_at, length-take-le, true≢false, arith}
 use Rattle.std.proofs.lemmas.Slice.{take-put_mid_below}
-use Rattle.std.specs.Prelude.{IfSome, None, Some}
+use Rattle.std.specs.Prelude.{IfSome, None, Some, IfOk, MatchResult, Ok, Err}
+use Rattle.std.specs.Result.{is_ok}
+use Rattle.std.specs.declared.result.Result.{Result}
 use Rattle.std.specs.declared.option.Option.{Option}
-use Rattle.std.specs.Io.KnownBytes.{Appends, Consumes, IsAtEnd}
+use Rattle.std.specs.Io.KnownBytes.{Appends, Consumes}
 use Rattle.std.proofs.KnownBytes.{Consumes-trans}
 use borrow.Rule.Slice.PartMut.{put_mid, post_of}
-use lib.Seq.{take-add, take-append-le, take-append_seam}
+use lib.Seq.{take-add, take-append-le}
 use Rattle.hits.specs.Printed.{printed}
 use Rattle.hits.specs.Report.{input_most}
 use Rattle.hits.proofs.Printed.{first_bytes}
@@ -31,34 +33,11 @@ after_read a b c buf ys at k n within fits p q =
     let joined = take_split at (at + n) buf (put_mid at k buf ys) (omega arith) (take-put_mid_below _ _ _ _ _ (le_refl _) within) in
     subst (Consumes a c) (ap (λ l. take at buf ++ l) (sym part) ∙ joined) (Consumes-trans a b c _ _ p q)
 
--- where the input has ended, its bytes are those that were read
-pub at_end : (a c : Option (List ℕ)) (new : List ℕ) (at : ℕ) → at ≤ length new → Consumes a c (take at new) → IsAtEnd c
-    → IfSome a (λ s. take at new ≡ take (length new) s)
-at_end None c new at h p e = tt
-at_end (Some s) None new at h p e = absurd p
-at_end (Some s) (Some u) new at h p e =
-    let all : s ≡ take at new = p ∙ ap (λ l. take at new ++ l) e ∙ append-nil (take at new) in
-    let short : length (take at new) ≤ length new = omega (arith, length-take-le at new h) in
-    sym (ap (take (length new)) all ∙ take_all (length new) (take at new) short)
-
--- a read that gives nothing tells the end
-pub ended : (a b c : Option (List ℕ)) (buf ys : List ℕ) (at k n : ℕ) → at ≤ length buf → n ≡ 0 → Consumes a b (take at buf) → Consumes b c (take n ys) → IsAtEnd c
-    → let new = put_mid at k buf ys in IfSome a (λ s. take at new ≡ take (length new) s)
-ended a b c buf ys at k n within none p q e =
-    let new = put_mid at k buf ys in
-    let fits : n ≤ length ys = omega arith in
-    let same : at + n ≡ at = omega arith in
-    let room : at ≤ length new = omega (arith, length-append (take at buf) (ys ++ post_of at k buf), length-take-le at buf within) in
-    at_end a c new at room (rw same at (after_read a b c buf ys at k n within fits p q)) e
-
--- where the buffer is full, it holds the first bytes
-pub all_full : (a c : Option (List ℕ)) (new : List ℕ) (at : ℕ) → at ≤ length new → length new ≤ at → Consumes a c (take at new)
-    → IfSome a (λ s. take at new ≡ take (length new) s)
-all_full None c new at h l p = tt
-all_full (Some s) None new at h l p = absurd p
-all_full (Some s) (Some u) new at h l p =
-    let size : length new ≡ length (take at new) = omega (arith, length-take-le at new h) in
-    sym (ap (take (length new)) p ∙ ap (λ n. take n (take at new ++ u)) size ∙ take-append_seam (take at new) u)
+-- what holds of the value of a result holds of it with another error
+pub with_error : {T E D : Type 0} (r : Result T E) (q : Result T D) (P : T → Type 0) (Q : E → Type 0) → MatchResult r (λ x. q ≡ Ok x) Q → is_ok q ≡ is_ok r → IfOk r P → IfOk q P
+with_error (Ok x) q P Q same v h = rw same h
+with_error (Err e) (Ok x) P Q same v h = absurd (true≢false v)
+with_error (Err e) (Err d) P Q same v h = tt
 
 -- the first bytes of the input decide what is written
 pub written : (known : Option (List ℕ)) (buf text : List ℕ) (n : ℕ) (old new : Option (List ℕ)) → length buf ≡ input_most

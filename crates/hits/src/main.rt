@@ -9,14 +9,12 @@ ghost use Rattle.std.specs.Prelude.{◌≡◌, ◌≤◌, OnOk, IfOk, IfSome, le
 ghost use Rattle.std.specs.Io.KnownBytes.{Appends};
 ghost use Rattle.hits.specs.Printed.{printed};
 
+use report::Page;
 use std::io;
 use std::io::{Read, Write};
 
 // One byte more than the longest good input: longer input fills the buffer, and is bad.
 const INPUT: usize = 6147;
-
-// Five lines with 4,096 places each.
-const PRINTED: usize = 225420;
 
 // What fails but the search itself.
 #[derive(Drop)]
@@ -31,6 +29,7 @@ fn read_front<R: Read>(input: &mut R, buf: &mut [u8]) -> io::Result<usize>
     ensures front { IfOk result (λ n. IfSome (R.remaining input.old) (λ s. take n buf.new ≡ take (length buf.new) s)) }
 {
     let mut at = 0;
+    // A read gives as many bytes as it likes, and `read_to_end` needs the heap.
     while at < buf.len() {
         let n = input.read(&mut buf[at..])?;
         if n == 0 {
@@ -46,24 +45,16 @@ fn run<R: Read, W: Write>(input: &mut R, out: &mut W) -> Result<(), Failure>
     ensures { OnOk result (IfSome (R.remaining input.old) (λ s. Appends (W.contents out.old) (W.contents out.new) (printed s))) }
 {
     let mut bytes = [0u8; INPUT];
-    let n = match read_front(input, &mut bytes) {
-        Ok(n) => n,
-        Err(e) => return Err(Failure::Reading(e)),
-    };
-    let mut text = [0u8; PRINTED];
-    let k = report::report(&bytes[..n], &mut text);
-    match out.write_all(&text[..k]) {
-        Ok(()) => Ok(()),
-        Err(e) => Err(Failure::Writing(e)),
-    }
+    let n = read_front(input, &mut bytes).map_err(Failure::Reading)?;
+    let mut page = Page::new();
+    report::report(&bytes[..n], &mut page);
+    out.write_all(page.as_slice()).map_err(Failure::Writing)
 }
 
 // The text of an error, without its number.
 fn reason(text: &str) -> &str {
-    match text.split_once(" (os error") {
-        Some((front, _)) => front,
-        None => text,
-    }
+    text.split_once(" (os error")
+        .map_or(text, |(front, _)| front)
 }
 
 // Says on standard error that the output cannot be written, and why.

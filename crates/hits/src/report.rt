@@ -1,16 +1,16 @@
-// What the program prints, stored into a lent buffer: from the bytes of the input to the bytes for the writer.
-ghost use Rattle.std.specs.Prelude.{◌≡◌, ◌+◌, ◌-◌, ◌≤◌, length, take};
-ghost use Rattle.io.specs.Counts.{IsPrefixLen};
-ghost use Rattle.lines.specs.Inner.{Puts, Sized, input_in};
-ghost use Rattle.hits.specs.Printed.{fixed_pattern, search_line, five_lines, printed_of, printed};
-ghost use Rattle.hits.specs.Report.{number_in, places_most, pattern_most, line_most, printed_most};
+// What the program prints: from the bytes of the input to a page, the bytes for the writer.
+ghost use Rattle.std.specs.Prelude.{◌≡◌, ◌+◌, ◌-◌, ◌≤◌, [], ◌++◌};
+ghost use Rattle.arrayvec.specs.ArrayVec.{array_vec_len};
+ghost use Rattle.hits.specs.Printed.{fixed_pattern, search_line, five_lines, printed};
+ghost use Rattle.hits.specs.Report.{places_most, pattern_most, line_most, printed_most};
 
-use lines::parse::Input;
+use arrayvec::ArrayVec;
+use lines::parse::Lines;
 use lines::{line, pack, parse};
 use search::{Mark, Method, Outcome};
 
 // "budget 2^32 − 1"
-const BUDGET: u32 = 4294967295;
+const BUDGET: u32 = u32::MAX;
 
 // A cell for each place, and the scratch that is enough for every method.
 const CELLS: usize = 4096;
@@ -20,30 +20,27 @@ const SCRATCH: usize = 4222;
 // The second run of the longest pattern: every bit is fixed.
 const RUN: usize = 256;
 
-// The number of a refused call; an accepted one has none.
-fn number_in(outcome: Outcome) -> u32
-    ensures { result ≡ number_in outcome }
-{
-    let Outcome::Refused(why) = outcome else {
-        return 0;
-    };
-    why.number()
-}
+// Five lines with 4,096 places each.
+const PRINTED: usize = 225420;
 
-// Searches the first n bits of the text for the pattern of m bits by one method, and stores its line from `at` on. There
-// are at most 4,096 places, and a cell for each; and the pattern has no more bits than any search takes.
-fn search_line(
-    text: &[u8],
-    n: u64,
-    pattern: &[u8],
-    m: u64,
-    method: Method,
-    out: &mut [u8],
-    at: usize,
-) -> usize
-    requires { (1 + n - m ≤ places_most) × (m ≤ pattern_most) × (at + line_most ≤ length out.old) }
-    ensures is { Puts out.old at (search_line (record { bytes = text.now; count = n }) (fixed_pattern pattern.now m) method) result out.new }
-    ensures short { result ≤ at + line_most }
+// What is printed, with room for the longest.
+pub(crate) type Page = ArrayVec<u8, PRINTED>;
+
+// The methods in the order of their lines.
+const METHODS: [Method; 5] = [
+    Method::Plain,
+    Method::Hash,
+    Method::Skip,
+    Method::Wide,
+    Method::Tail,
+];
+
+// Searches the first n bits of the text for the pattern of m bits by one method, and appends its line. There are at most
+// 4,096 places, and a cell for each; and the pattern has no more bits than any search takes.
+fn search_line(text: &[u8], n: u64, pattern: &[u8], m: u64, method: Method, page: &mut Page)
+    requires { (1 + n - m ≤ places_most) × (m ≤ pattern_most) × (array_vec_len page.old + line_most ≤ printed_most) }
+    ensures is { page.new.items ≡ page.old.items ++ search_line (record { bytes = text.now; count = n }) (fixed_pattern pattern.now m) method }
+    ensures short { array_vec_len page.new ≤ array_vec_len page.old + line_most }
 {
     let mut list = [0u32; CELLS];
     let mut scratch = [0u64; SCRATCH];
@@ -59,52 +56,41 @@ fn search_line(
         &mut list,
         &mut scratch,
     );
-    let Outcome::Accepted(answer) = outcome else {
-        return line::refused(out, at, method, number_in(outcome));
+    match outcome {
+        Outcome::Accepted(answer) => {
+            let places = &list[..answer.occurrences as usize];
+            line::accepted(page, method, answer.steps, places);
+        }
+        Outcome::Refused(why) => line::refused(page, method, why.number()),
+    }
+}
+
+// Appends the lines of the five methods to an empty page.
+fn five_lines(text: &[u8], n: u64, pattern: &[u8], m: u64, page: &mut Page)
+    requires { (1 + n - m ≤ places_most) × (m ≤ pattern_most) × (page.old.items ≡ []) }
+    ensures { page.new.items ≡ five_lines (record { bytes = text.now; count = n }) (fixed_pattern pattern.now m) }
+{
+    for method in METHODS {
+        search_line(text, n, pattern, m, method, page);
+    }
+}
+
+// Appends what is printed for the input, the five lines or that it is bad, to an empty page.
+pub(crate) fn report(input: &[u8], page: &mut Page)
+    requires { page.old.items ≡ [] }
+    ensures { page.new.items ≡ printed input.now }
+{
+    let Some(Lines { pattern, text }) = parse::parse(input) else {
+        line::put(page, b"bad input\n");
+        return;
     };
-    line::accepted(out, at, method, answer.steps, answer.occurrences, &list)
-}
-
-// Stores the lines of the five methods.
-fn five_lines(text: &[u8], n: u64, pattern: &[u8], m: u64, out: &mut [u8]) -> usize
-    requires { (1 + n - m ≤ places_most) × (m ≤ pattern_most) × (printed_most ≤ length out.old) }
-    ensures is { Puts out.old 0 (five_lines (record { bytes = text.now; count = n }) (fixed_pattern pattern.now m)) result out.new }
-    ensures short { result ≤ printed_most }
-{
-    let a = search_line(text, n, pattern, m, Method::Plain, out, 0);
-    let b = search_line(text, n, pattern, m, Method::Hash, out, a);
-    let c = search_line(text, n, pattern, m, Method::Skip, out, b);
-    let d = search_line(text, n, pattern, m, Method::Wide, out, c);
-    search_line(text, n, pattern, m, Method::Tail, out, d)
-}
-
-// Packs a pattern of m characters and a text of n, which start and end the input, and stores their lines.
-fn packed_lines(input: &[u8], m: usize, n: usize, out: &mut [u8]) -> usize
-    requires { Sized input.now (Input.Lines m n) × (printed_most ≤ length out.old) }
-    ensures is { Puts out.old 0 (printed_of (input_in input.now (Input.Lines m n))) result out.new }
-    ensures short { result ≤ printed_most }
-{
-    let mut pattern_bytes = [0u8; 256];
-    let mut text_bytes = [0u8; 512];
-    let start = m + 1;
-    let end = start + n;
-    let a = pack::pack(&input[..m], &mut pattern_bytes);
-    let b = pack::pack(&input[start..end], &mut text_bytes);
-    let pattern: &[u8] = &pattern_bytes[..a];
-    let text: &[u8] = &text_bytes[..b];
-    five_lines(text, n as u64, pattern, m as u64, out)
-}
-
-// Stores what is printed for the input, the five lines or that it is bad, to the front of `out`, and gives how many bytes
-// that is.
-pub(crate) fn report(input: &[u8], out: &mut [u8]) -> usize
-    requires { printed_most ≤ length out.old }
-    ensures counts { IsPrefixLen result out.new }
-    ensures is { take result out.new ≡ printed input.now }
-{
-    let parsed = parse::parse(input);
-    let Input::Lines(m, n) = parsed else {
-        return line::put(out, 0, b"bad input\n");
-    };
-    packed_lines(input, m, n, out)
+    let pattern_bytes: ArrayVec<u8, 256> = pack::pack(pattern);
+    let text_bytes: ArrayVec<u8, 512> = pack::pack(text);
+    five_lines(
+        text_bytes.as_slice(),
+        text.len() as u64,
+        pattern_bytes.as_slice(),
+        pattern.len() as u64,
+        page,
+    );
 }

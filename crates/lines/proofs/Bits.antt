@@ -1,21 +1,24 @@
 -- Laws of bits that are packed into bytes.
 -- Assumes nothing.
-use Prim.Native.Nat.{ℕ, zero, suc, ◌+◌, ◌-◌, ◌*◌, ◌/◌, ◌%◌, ◌^◌, ◌≤◌, ◌<◌}
+use Prim.Native.Nat.{ℕ, zero, suc, min, ◌+◌, ◌-◌, ◌*◌, ◌/◌, ◌%◌, ◌^◌, ◌≤◌, ◌<◌}
 use mathlib.Core.Path.{◌≡◌, refl, sym, ap, ◌∙◌}
 use mathlib.Core.Bool.{Bool, true, false}
-use mathlib.Core.List.{List, [], ◌∷◌, ◌++◌, map}
+use mathlib.Core.List.{List, [], ◌∷◌, ◌++◌, map, append-nil}
 use native.Mathlib.Omega.{arith}
+use native.Mathlib.Decide.{dec_le}
 use native.Mathlib.Nat.{pow-suc, add-zero, zero-add, lt_of_lt_of_le}
 use native.Mathlib.Numerals.{add-one}
 use lib.Pow.{pow_mono}
 use lib.Dec.{eqb}
-use lib.ListN.{length, get_or, set, take, drop, length-map, get_or-eq_default, get_or-map}
-use lib.Seq.{take-suc-set, drop-set-lt, drop-drop}
+use lib.ListN.{length, get_or, take, drop, length-append, length-map, get_or-map, drop_of_length-le}
+use Rattle.std.proofs.Common.{get_or-take}
+use Rattle.std.proofs.lemmas.List.{nil_from_length}
+use lib.Seq.{drop-drop, get_or-drop, take-append_seam, drop-append_seam, take_all}
 use borrow.Author.Tests.{eqb-true, eqb-false}
 use Rattle.bits.specs.Packed.{weight, bit_at, bytes_for}
 use Rattle.bits.proofs.Weight.{weight_shr}
 use Rattle.lines.specs.Input.{bit_of, Bits}
-use Rattle.lines.specs.Packing.{bits_from, bytes_from, packed, Packs}
+use Rattle.lines.specs.Packing.{bits_from, bytes_from, packed}
 
 -- ---- several bits as a number
 
@@ -59,20 +62,48 @@ module _ (bits : List ℕ) (small : Small bits) (p : ℕ) where
 chars_small : (chars : List ℕ) → Small (map bit_of chars)
 chars_small chars i = rw (get_or-map bit_of chars i 0) (omega arith)
 
-pub chars_byte : (chars : List ℕ) (p k : ℕ) → k < 8 → bits_from (map bit_of chars) p k < 2 ^ 7
-chars_byte chars p k h =
-    lt_of_lt_of_le (from_lt (map bit_of chars) (chars_small chars) p k) (pow_mono {i = k} {j = 7} (omega arith))
+pub chars_byte : (chars : List ℕ) (k : ℕ) → k < 8 → bits_from (map bit_of chars) 0 k < 2 ^ 7
+chars_byte chars k h =
+    lt_of_lt_of_le (from_lt (map bit_of chars) (chars_small chars) 0 k) (pow_mono {i = k} {j = 7} (omega arith))
 
--- one character more, and none past the last
-pub chars_more : (chars : List ℕ) (p k x : ℕ) → x ≡ bits_from (map bit_of chars) p k → x * 2 + get_or chars (p + k) 0 % 2 ≡ bits_from (map bit_of chars) p (k + 1)
+-- one character more, or past the last one a character 0
+pub chars_more : (chars : List ℕ) (k x : ℕ) → x ≡ bits_from (map bit_of chars) 0 k → x * 2 + get_or chars k 48 % 2 ≡ bits_from (map bit_of chars) 0 (k + 1)
 unfolding bits_from
-chars_more chars p k x e = rw (e, add-one k, get_or-map bit_of chars (p + k) 0)
+chars_more chars k x e = rw (e, add-one k, zero-add k, get_or-map bit_of chars k 48)
 
-pub chars_past : (chars : List ℕ) (p k x : ℕ) → x ≡ bits_from (map bit_of chars) p k → length chars ≤ p + k → x * 2 ≡ bits_from (map bit_of chars) p (k + 1)
-chars_past chars p k x e h =
-    let none : get_or chars (p + k) 0 ≡ 0 = get_or-eq_default {A = ℕ} chars 0 h in
-    let zero : x * 2 ≡ x * 2 + get_or chars (p + k) 0 % 2 = rw none (omega arith) in
-    zero ∙ chars_more chars p k x e
+-- ---- eight characters, taken off the front of those that are left
+
+off_front : (all eight rest : List ℕ) → all ≡ eight ++ rest → length eight ≡ min 8 (length all) → (eight ≡ take 8 all) × (rest ≡ drop 8 all)
+off_front all eight rest e h = go (dec_le 8 (length all))
+  where
+    sizes : length all ≡ length eight + length rest
+    sizes = simp length-append at (ap length e)
+
+    go : Dec (8 ≤ length all) → (eight ≡ take 8 all) × (rest ≡ drop 8 all)
+    go (yes more) =
+        let whole : length eight ≡ 8 = omega arith in
+        (rw (e, ← whole) (sym (take-append_seam eight rest)), rw (e, ← whole) (sym (drop-append_seam eight rest)))
+    go (no less) =
+        let none : rest ≡ [] = nil_from_length rest (omega (arith, sizes)) in
+        let all_in : all ≡ eight = e ∙ ap (λ (l : List ℕ). eight ++ l) none ∙ append-nil eight in
+        let few : length all ≤ 8 = omega arith in
+        (sym all_in ∙ sym (take_all 8 all few), none ∙ sym (drop_of_length-le all few))
+
+same_bits : (xs ys : List ℕ) (p q k : ℕ) → ((j : ℕ) → j < k → get_or xs (p + j) 0 ≡ get_or ys (q + j) 0) → bits_from xs p k ≡ bits_from ys q k
+unfolding bits_from
+same_bits xs ys p q zero h = refl
+same_bits xs ys p q (suc k) h = rw (same_bits xs ys p q k (λ j l. h j (omega arith)), h k (omega arith))
+
+pub eight_more : (chars eight rest : List ℕ) (b : ℕ) → drop (b * 8) chars ≡ eight ++ rest → length eight ≡ min 8 (length (drop (b * 8) chars))
+    → (rest ≡ drop ((b + 1) * 8) chars) × (bits_from (map bit_of eight) 0 8 ≡ bits_from (map bit_of chars) (b * 8) 8)
+eight_more chars eight rest b e h =
+    let parts = off_front (drop (b * 8) chars) eight rest e h in
+    (parts.1 ∙ drop-drop 8 (b * 8) chars ∙ ap (λ (k : ℕ). drop k chars) (omega arith), same_bits (map bit_of eight) (map bit_of chars) 0 (b * 8) 8 (λ j l. at parts.0 j l))
+  where
+    at : eight ≡ take 8 (drop (b * 8) chars) → (j : ℕ) → j < 8 → get_or (map bit_of eight) (0 + j) 0 ≡ get_or (map bit_of chars) (b * 8 + j) 0
+    at is j l =
+        rw (zero-add j, get_or-map bit_of eight j 0, get_or-map bit_of chars (b * 8 + j) 0, is)
+        (ap bit_of (rw (get_or-take, get_or-drop)))
 
 -- ---- the bytes
 
@@ -96,39 +127,13 @@ bytes_at bits b (suc k) (suc i) h =
     let there : suc b + i ≡ b + suc i = omega arith in
     rw there at (bytes_at bits (suc b) k i (omega arith))
 
--- the first b bytes are packed, and the others are as they were
-abbrev pub Filled : List ℕ → List ℕ → ℕ → List ℕ → Type 0
-Filled chars before b out = (take b out ≡ bytes_from (map bit_of chars) 0 b) × (drop b out ≡ drop b before)
+-- one byte more, and all of them
+pub bytes_more : (bits : List ℕ) (b : ℕ) → bytes_from bits 0 b ++ (bits_from bits (b * 8) 8 ∷ []) ≡ bytes_from bits 0 (b + 1)
+bytes_more bits b = rw (add-one b) (sym (rw (zero-add b) at (bytes_snoc bits 0 b)))
 
-pub filled_none : (chars before : List ℕ) → Filled chars before 0 before
-unfolding bytes_from
-filled_none chars before = (refl, refl)
-
-pub filled_more : (chars before out : List ℕ) (b x : ℕ) → b < length out → x ≡ bits_from (map bit_of chars) (b * 8) 8 → Filled chars before b out → Filled chars before (b + 1) (set out b x)
-filled_more chars before out b x h e f = (front, rest)
-  where
-    front : take (b + 1) (set out b x) ≡ bytes_from (map bit_of chars) 0 (b + 1)
-    front = rw (add-one b, take-suc-set out b x h, f.0, e) (sym (rw (zero-add b) at (bytes_snoc (map bit_of chars) 0 b)))
-
-    rest : drop (b + 1) (set out b x) ≡ drop (b + 1) before
-    rest =
-        drop-set-lt (b + 1) out b x (omega arith)
-        ∙ sym (drop-drop 1 b out)
-        ∙ ap (drop 1) f.1
-        ∙ drop-drop 1 b before
-
-chars_packed : (chars : List ℕ) → bytes_from (map bit_of chars) 0 (bytes_for (length chars)) ≡ packed (map bit_of chars)
+pub bytes_all : (chars : List ℕ) (b : ℕ) → b ≡ bytes_for (length chars) → bytes_from (map bit_of chars) 0 b ≡ packed (map bit_of chars)
 unfolding packed
-chars_packed chars = rw (length-map chars bit_of)
-
-pub filled_packs : (chars before out : List ℕ) (n : ℕ) → n ≡ bytes_for (length chars) → n ≤ length out → Filled chars before n out → Packs chars before n out
-filled_packs chars before out n e h f =
-    let whole : n ≡ length (take n out) = rw f.0 (sym (bytes_length (map bit_of chars) 0 n)) in
-    record {
-      is = f.0 ∙ ap (bytes_from (map bit_of chars) 0) e ∙ chars_packed chars;
-      counts = (h, whole);
-      rest = f.1;
-    }
+bytes_all chars b e = rw (e, length-map chars bit_of)
 
 -- ---- what a reader of the packed bytes finds
 

@@ -1,18 +1,16 @@
 -- The parser accepts exactly the input that document 01 describes, and a beginning of the input is enough to judge it.
 -- Assumes nothing.
-use Prim.Native.Nat.{ℕ, zero, suc, ◌+◌, ◌-◌, ◌≤◌, ◌<◌}
+use Prim.Native.Nat.{ℕ, zero, suc, ◌≤◌, ◌<◌}
 use mathlib.Core.Path.{◌≡◌, refl, sym, ap, ◌∙◌}
 use mathlib.Core.Logic.{◌↔◌}
 use mathlib.Core.Bool.{Bool, true, false, cond, ◌&&◌}
 use mathlib.Core.List.{List, [], ◌∷◌, ◌++◌, map}
 use native.Mathlib.Omega.{arith}
 use lib.Dec.{eqb, leb}
-use lib.ListN.{length, take, drop, length-append, length-map, length-take, length-drop}
+use lib.ListN.{length, take, length-append, length-map, length-take}
 use lib.Seq.{take_all}
 use borrow.Author.Tests.{eq-eqb, ne_eqb, eqb-true, eqb-false, le-leb, leb-true, leb-false}
 use Rattle.lines.specs.Input.{is_digit, bit_of, char_of, Split, no_line, line, prepend, read_line, Parsed, bad, lines, fits, second_line, first_line, parse, Bits, Good, longest}
-use Rattle.lines.specs.Inner.{line_in}
-use Rattle.lines.specs.declared.parse.LineEnd.TheVariants.{At}
 
 -- ---- what the code's tests decide
 
@@ -189,43 +187,20 @@ beginning s k h = go (leb (length s) k) refl
         let over : k < length s = leb-false (length s) k e in
         long_bad (take k s) (rw length-take (omega arith)) ∙ sym (long_bad s (omega arith))
 
--- ---- what the code finds by its indices: the first line ends at m and the second at e
+-- ---- what the code finds: two lines of characters, and the bytes after them
 
-module _ (s : List ℕ) (m e : ℕ) (first : line_in s 0 (At m) ≡ read_line (drop 0 s)) (second : line_in s (m + 1) (At e) ≡ read_line (drop (m + 1) s)) (below : m + 1 ≤ e) (inside : e < length s) where
-  abbrev pattern : List ℕ
-  pattern = map bit_of (take m s)
+module _ (s pattern rest text after : List ℕ) (first : read_line s ≡ line (map bit_of pattern) rest) (second : read_line rest ≡ line (map bit_of text) after) where
+  pub left_over : 0 < length after → bad ≡ parse s
+  left_over h = sym (two_lines s _ rest _ after first second ∙ more_after _ _ after h)
 
-  abbrev text : List ℕ
-  text = map bit_of (take (e - (m + 1)) (drop (m + 1) s))
+  all_read : length after ≡ 0 → parse s ≡ cond (fits (length pattern) (length text)) (lines (map bit_of pattern) (map bit_of text)) bad
+  all_read h =
+      two_lines s _ rest _ after first second
+      ∙ none_after _ _ after h
+      ∙ rw (length-map pattern bit_of, length-map text bit_of)
 
-  abbrev after : List ℕ
-  after = drop (e + 1) s
-
-  both : parse s ≡ second_line pattern (line text after)
-  both =
-      let whole : m - 0 ≡ m = omega arith in
-      two_lines s pattern (drop (m + 1) s) text after (sym (rw whole at first)) (sym second)
-
-  sizes : fits (length pattern) (length text) ≡ fits m (e - (m + 1))
-  sizes =
-      let a : length pattern ≡ m = simp (length-map, length-take) (omega arith) in
-      let b : length text ≡ e - (m + 1) = simp (length-map, length-take, length-drop) (omega arith) in
-      rw (a, b)
-
-  pub left_over : e + 1 < length s → bad ≡ parse s
-  left_over h = sym (both ∙ more_after pattern text after (rw length-drop (omega arith)))
-
-  all_read : length s ≤ e + 1 → parse s ≡ cond (fits m (e - (m + 1))) (lines pattern text) bad
-  all_read h = both ∙ none_after pattern text after (rw length-drop (omega arith)) ∙ rw sizes
-
-  pub taken : length s ≤ e + 1 → fits m (e - (m + 1)) ≡ true → lines pattern text ≡ parse s
+  pub taken : length after ≡ 0 → fits (length pattern) (length text) ≡ true → lines (map bit_of pattern) (map bit_of text) ≡ parse s
   taken h f = sym (all_read h ∙ rw f)
 
-  pub not_taken : length s ≤ e + 1 → fits m (e - (m + 1)) ≡ false → bad ≡ parse s
+  pub not_taken : length after ≡ 0 → fits (length pattern) (length text) ≡ false → bad ≡ parse s
   not_taken h f = sym (all_read h ∙ rw f)
-
--- the second line has no end
-pub unended : (s : List ℕ) (m : ℕ) → line_in s 0 (At m) ≡ read_line (drop 0 s) → no_line ≡ read_line (drop (m + 1) s) → bad ≡ parse s
-unended s m first second =
-    let whole : m - 0 ≡ m = omega arith in
-    sym (no_second s (map bit_of (take m s)) (drop (m + 1) s) (sym (rw whole at first)) (sym second))

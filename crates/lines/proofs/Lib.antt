@@ -2,6 +2,6 @@
 pub mod Reading
 pub mod Input
 pub mod Bits
-pub mod Putting
 pub mod Decimal
+pub mod Appending
 pub mod Examples

@@ -1,5 +1,5 @@
 // The text form of the program `hits`: its two input lines parsed and packed, and the lines that it prints. Only that
-// program calls these functions, which ask for buffers that hold what is stored.
+// program calls these functions, which ask for a page with room for what is appended.
 #![tactic(auto)]
 
 pub mod line;

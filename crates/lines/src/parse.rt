@@ -1,75 +1,61 @@
 // Parsing of the input: two lines of the characters 0 and 1.
-ghost use Rattle.std.specs.Prelude.{◌≡◌, ◌≤◌, length, drop};
-ghost use Rattle.lines.specs.Input.{read_line, fits};
+ghost use Rattle.std.specs.Prelude.{◌≡◌, [], ◌∷◌, ◌++◌, map, MatchOption, IfSome};
+ghost use Rattle.std.specs.List.{prefix_len};
+ghost use Rattle.lines.specs.Input.{is_digit, bit_of, read_line, no_line, line, fits};
 ghost use Rattle.lines.specs.Input.{parse as Input·parse};
-ghost use Rattle.lines.specs.Inner.{line_in, EndsIn, input_in, Sized};
+ghost use Rattle.lines.specs.Inner.{input_in, Sized};
 
-// The index of the byte 10 that ends a line, where nothing but characters 0 and 1 stands before it.
+// The byte that ends a line.
+const LINE_END: u8 = b'\n';
+
+// The two lines of good input, without the bytes that end them.
 #[derive(Clone, Copy)]
-enum LineEnd {
-    At(usize),
-    Missing,
+pub struct Lines<'a> {
+    pub pattern: &'a [u8],
+    pub text: &'a [u8],
 }
 
-// The lengths of the two lines, the pattern's and the text's.
-#[derive(Clone, Copy)]
-pub enum Input {
-    Lines(usize, usize),
-    Bad,
-}
-
-// Where the line that starts at `from` ends.
-fn line_end(s: &[u8], from: usize) -> LineEnd
-    requires { from ≤ length s.now }
-    ensures is { line_in s.now from result ≡ read_line (drop from s.now) }
-    ensures within { EndsIn s.now from result }
+// How many characters 0 and 1 stand in front.
+fn count_digits(s: &[u8]) -> usize
+    ensures { result ≡ prefix_len is_digit s.now }
 {
-    let mut i = from;
-    while i < s.len() {
-        let c = s[i];
-        match c {
-            10 => return LineEnd::At(i),
-            b'0' | b'1' => i += 1,
-            _ => return LineEnd::Missing,
-        }
+    s.iter().take_while(|c| matches!(**c, b'0' | b'1')).count()
+}
+
+// The first line, and the bytes after its byte 10: none where another byte ends the characters 0 and 1, or no byte.
+fn split_line(s: &[u8]) -> Option<(&[u8], &[u8])>
+    ensures is { MatchOption result (read_line s.now ≡ no_line) (λ p. read_line s.now ≡ line (map bit_of p.0.now) p.1.now) }
+    ensures parts { IfSome result (λ p. s.now ≡ p.0.now ++ (10 ∷ p.1.now)) }
+{
+    let (line, rest) = s.split_at(count_digits(s));
+    let Some((end, rest)) = rest.split_first() else {
+        return None; // the bytes end before the line does
+    };
+    if *end == LINE_END {
+        Some((line, rest))
+    } else {
+        None
     }
-    LineEnd::Missing // the bytes end before the line does
 }
 
 // Whether a pattern of m bits and a text of n bits are taken.
 fn fit(m: usize, n: usize) -> bool
     ensures { result ≡ fits m n }
 {
-    if m < 1 {
-        return false;
-    }
-    if 2048 < m {
-        return false;
-    }
-    n <= 4096
+    1 <= m && m <= 2048 && n <= 4096
 }
 
-// The two lines of the whole input.
-pub fn parse(s: &[u8]) -> Input
-    ensures is { input_in s.now result ≡ Input·parse s.now }
+// The two lines of the whole input, where it is good.
+pub fn parse(s: &[u8]) -> Option<Lines<'_>>
+    ensures is { input_in result ≡ Input·parse s.now }
     ensures sized { Sized s.now result }
+    ensures parts { IfSome result (λ l. s.now ≡ l.pattern.now ++ (10 ∷ (l.text.now ++ (10 ∷ [])))) }
 {
-    let first = line_end(s, 0);
-    let LineEnd::At(m) = first else {
-        return Input::Bad;
-    };
-    let start = m + 1;
-    let second = line_end(s, start);
-    let LineEnd::At(end) = second else {
-        return Input::Bad;
-    };
-    if end + 1 < s.len() {
-        return Input::Bad;
-    }
-    let n = end - start;
-    if fit(m, n) {
-        Input::Lines(m, n)
+    let (pattern, rest) = split_line(s)?;
+    let (text, after) = split_line(rest)?;
+    if after.is_empty() && fit(pattern.len(), text.len()) {
+        Some(Lines { pattern, text })
     } else {
-        Input::Bad
+        None
     }
 }

@@ -1,15 +1,17 @@
-use native.Mathlib.Omega.{arith}
-use Rattle.lines.specs.declared.parse.Input.TheVariants.{Bad}
-use Rattle.lines.proofs.Putting.{puts_as, front_of}
+-- `hits::report::report` meets its contract.
+-- Assumes nothing.
+use Rattle.std.proofs.Common.{◌∙◌}
 use Rattle.hits.specs.Printed.{printed_of}
-use Rattle.hits.proofs.Reporting.{input_printed}
+use Rattle.hits.proofs.Reporting.{packed_printed, parsed_printed}
 use Rattle.hits.proofs.report.report.Goals as goal
 
-pub returns-in_default-clause-is : goal.returns-in_default-clause-is
+pub returns-in_default : goal.returns-in_default
 unfolding printed_of
-returns-in_default-clause-is c =
-    (front_of (puts_as (input_printed c.args.input.now _ Bad c.parse-parsed.ensures.is c.in_default.is) c.put.ensures) (omega arith)).1
+returns-in_default c =
+    rw (c.put.ensures, c.requires) (parsed_printed _ _ c.in_default.ensures.is)
 
-pub returns-clause-is : goal.returns-clause-is
-returns-clause-is c =
-    (front_of (puts_as (input_printed c.args.input.now _ _ c.parse-parsed.ensures.is c.in-Lines.is) c.packed_lines.ensures.is) (omega arith)).1
+pub returns : goal.returns
+returns c =
+    c.five_lines.ensures
+    ∙ packed_printed _ _ _ _ (c.as_slice-2.ensures.value ∙ c.pack-pattern_bytes.ensures) (c.as_slice.ensures.value ∙ c.pack-text_bytes.ensures)
+    ∙ parsed_printed _ _ c.in-Some.ensures.is

@@ -1,10 +1,9 @@
--- `hits::report::search_line` meets its contract: the call's promise decides which line is stored. The lengths of the arrays
--- come from a law, since computing them counts each cell.
+-- `hits::report::search_line` meets its contract: the call's promise decides which line is appended. The lengths of the
+-- arrays come from a law, since computing them counts each cell.
 -- Assumes nothing.
 use lib.ListN.{replicate}
 use borrow.Author.Rules.{rules}
 use Rattle.rules.proofs.Scratch.{enough}
-use Rattle.lines.proofs.Putting.{puts_as}
 use Rattle.hits.specs.Printed.{fixed_pattern}
 use Rattle.hits.proofs.Enough.{holds}
 use Rattle.hits.proofs.Answers.{Call, refused_printed, accepted_printed}
@@ -22,10 +21,10 @@ made c =
       promise = c.search-outcome.ensures;
     }
 
-pub returns-in_default-clause-is : goal.returns-in_default-clause-is
-returns-in_default-clause-is c =
-    puts_as (refused_printed (made (goal.at.returns-in_default-clause-is c).After-search-outcome) c.in_default.is c.number_in.ensures) c.refused.ensures.is
+pub returns-in-Accepted-clause-is : goal.returns-in-Accepted-clause-is
+returns-in-Accepted-clause-is c =
+    rw (← accepted_printed (made (goal.at.returns-in-Accepted-clause-is c).After-search-outcome) c.in-Accepted.is) c.accepted.ensures.is
 
-pub returns-clause-is : goal.returns-clause-is
-returns-clause-is c =
-    puts_as (accepted_printed (made (goal.at.returns-clause-is c).After-search-outcome) c.in-Accepted.is) c.accepted.ensures.is
+pub returns-in-Refused-clause-is : goal.returns-in-Refused-clause-is
+returns-in-Refused-clause-is c =
+    rw (← refused_printed (made (goal.at.returns-in-Refused-clause-is c).After-search-outcome) c.in-Refused.is c.number.ensures) c.refused.ensures.is

@@ -1,15 +1,19 @@
-use native.Mathlib.Omega.{arith}
+use Rattle.std.proofs.Common.{ℕ, append_assoc, append-nil, sym, ◌∙◌, ap, arith, length, length-append}
 use Rattle.lines.specs.Line.{numbers}
-use Rattle.lines.proofs.Putting.{puts_none, puts_numbers}
+use Rattle.lines.proofs.Appending.{numbers_more}
 use Rattle.lines.proofs.line.put_numbers.Goals as goal
 
-pub loop-i-init : goal.loop-i-init
+pub loop-n-init : goal.loop-n-init
 unfolding numbers
-loop-i-init c = (omega arith, puts_none _ _)
+loop-n-init g c = record { appended = sym (append-nil _); short = omega arith }
 
-pub loop-i-preserved : goal.loop-i-preserved
-loop-i-preserved c =
-    let a = c.args in
-    let l = c.loop-i in
-    let p = c.put_number-at in
-    ((omega arith, (omega (arith, p.auto.out), omega (arith, p.ensures.short))), puts_numbers a.out.now l.out p.new.out a.list.now a.start l.at p.result l.i (omega arith) l.invariant.1 p.ensures.is)
+pub loop-n-preserved : goal.loop-n-preserved
+loop-n-preserved g c =
+    let more = numbers_more c.args.list.now c.loop-n.n-index (omega arith) (omega (arith, c.type_inv.list c.loop-n.n-index)) in
+    let text = c.as_bytes.ensures.value ∙ c.format.ensures.text in
+    let item = c.put.ensures in
+    let space = c.push.ensures.items in
+    record {
+      appended = rw (item, text, space, c.loop-n.invariant.appended, ← more) (simp append_assoc);
+      short = omega (arith, c.format.ensures.fits, ap length item, ap length space, length-append {A = ℕ});
+    }

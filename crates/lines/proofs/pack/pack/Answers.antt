@@ -1,50 +1,41 @@
-use Prim.Native.Nat.{ℕ}
-use mathlib.Core.Path.{◌≡◌, ap, ◌∙◌}
-use mathlib.Core.List.{map}
-use native.Mathlib.Omega.{arith}
-use lib.ListN.{length-set}
+use Rattle.std.proofs.Common.{◌≡◌, ◌*◌, ◌++◌, ◌∷◌, [], length, length-drop, drop, min, map, refl, ap, ◌∙◌, sym, arith}
+use Rattle.std.specs.Slice.Iter.{chunks_rest}
+use Rattle.arrayvec.specs.ArrayVec.{array_vec_len}
 use Rattle.lines.specs.Input.{bit_of}
-use Rattle.lines.specs.Packing.{bits_from}
-use Rattle.lines.proofs.Bits.{filled_none, filled_more, filled_packs}
-use borrow.Author.Rules.{rules}
+use Rattle.lines.specs.Packing.{bits_from, bytes_from}
+use Rattle.lines.proofs.Bits.{eight_more, bytes_more, bytes_all}
 use Rattle.lines.proofs.pack.pack.Goals as goal
 
-pub bytes_for-count-requires : goal.bytes_for-count-requires
-bytes_for-count-requires c = omega arith
+pub loop-eight-init : goal.loop-eight-init
+unfolding bytes_from
+loop-eight-init g c =
+    let none = c.new-bytes.ensures in
+    rw (c.into_iter-eight-iterator.ensures.into_iter_gives, none)
+    (record { size = c.chunks-eight-items.ensures.size; left = c.chunks-eight-items.ensures.rest; packed = refl; few = omega arith })
 
-pub loop-b-init : goal.loop-b-init
-loop-b-init c = (search rules, filled_none c.args.chars.now c.args.out.now)
-
-pub place-requires : goal.place-requires
-place-requires c = omega arith
-
-pub byte-requires : goal.byte-requires
-byte-requires c = omega arith
-
-pub bounds-out-b : goal.bounds-out-b
-bounds-out-b c = omega arith
-
-pub overflow_add-b : goal.overflow_add-b
-overflow_add-b c = omega arith
-
-pub loop-b-smaller : goal.loop-b-smaller
-loop-b-smaller c = omega arith
-
-pub loop-b-preserved : goal.loop-b-preserved
-loop-b-preserved c =
-    let a = c.args in
-    let l = c.loop-b in
-    let at = c.place.ensures in
-    let x = c.byte.ensures ∙ ap (λ (p : ℕ). bits_from (map bit_of a.chars.now) p 8) at in
-    ((omega arith, simp length-set (omega arith)), filled_more a.chars.now a.out.now l.out l.b c.byte.result (omega arith) x l.invariant.1)
-
-pub shape_of-out : goal.shape_of-out
-shape_of-out c = omega arith
+pub loop-eight-preserved : goal.loop-eight-preserved
+loop-eight-preserved g c =
+    let l = c.loop-eight in
+    let step = c.in-Some.ensures.steps in
+    let rest = chunks_rest c.next.new.self in
+    let split : drop (array_vec_len l.bytes * 8) c.args.chars.now ≡ c.in-Some.eight.now ++ rest = sym l.invariant.left ∙ step.1.0 in
+    let size : length c.in-Some.eight.now ≡ min 8 (length (drop (array_vec_len l.bytes * 8) c.args.chars.now)) = cc in
+    let more = eight_more c.args.chars.now c.in-Some.eight.now rest (array_vec_len l.bytes) split size in
+    let bits = map bit_of c.args.chars.now in
+    let b = array_vec_len l.bytes in
+    let count = c.push.ensures.len in
+    record {
+      size = step.0 ∙ l.invariant.size;
+      left = rw count more.0;
+      packed = rw count
+          (c.push.ensures.items ∙ ap (λ x. l.bytes.items ++ (x ∷ [])) (c.byte.ensures ∙ more.1) ∙ ap (λ xs. xs ++ (bits_from bits (b * 8) 8 ∷ [])) l.invariant.packed ∙ bytes_more bits b);
+      few = omega (arith, count, step.1.2, ap length l.invariant.left, length-drop (b * 8) c.args.chars.now);
+    }
 
 pub returns : goal.returns
-returns c =
-    let a = c.args in
-    let l = c.loop-b in
-    let n = c.bytes_for-count in
-    let e : l.b ≡ n.result = omega arith in
-    filled_packs a.chars.now a.out.now l.out n.result n.ensures (omega arith) (rw e at l.invariant.1)
+returns g c =
+    let l = c.loop-eight in
+    let b = array_vec_len l.bytes in
+    let end = c.in-None.ensures.steps.1.0 in
+    l.invariant.packed
+    ∙ bytes_all c.args.chars.now b (omega (arith, end, l.invariant.few, ap length l.invariant.left, length-drop (b * 8) c.args.chars.now))

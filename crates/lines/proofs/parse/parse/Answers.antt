@@ -1,28 +1,30 @@
-use mathlib.Core.Path.{sym, ◌∙◌}
-use native.Mathlib.Omega.{arith}
-use Rattle.lines.proofs.Input.{no_first, unended, left_over, taken, not_taken}
+-- `lines::parse::parse` meets its contract.
+-- Assumes nothing.
+use Rattle.std.proofs.Common.{sym, ◌∙◌, rules}
+use Rattle.lines.proofs.Input.{no_first, no_second, left_over, taken, not_taken}
 use Rattle.lines.proofs.parse.parse.Goals as goal
+use Rattle.lines.proofs.parse.parse.Goals.{else-is_empty-via-then-is_empty+else-fit, else-is_empty-via-else-is_empty}
 
 pub returns-then-fit-clause-is : goal.returns-then-fit-clause-is
 returns-then-fit-clause-is c =
-    let e = c.in-At-second.ensures in
-    taken c.args.s.now c.in-At.m c.in-At-second.end c.in-At.ensures.is e.is e.within.0 e.within.1 (omega arith) (sym c.fit.ensures ∙ c.if-fit.true)
+    let first = c.in_ok-pattern.ensures.is in
+    let second = c.in_ok-text.ensures.is in
+    taken _ _ _ _ _ first second (search rules) (sym c.fit.ensures ∙ c.if-fit.true)
 
-pub returns-else-fit-clause-is : goal.returns-else-fit-clause-is
-returns-else-fit-clause-is c =
-    let e = c.in-At-second.ensures in
-    not_taken c.args.s.now c.in-At.m c.in-At-second.end c.in-At.ensures.is e.is e.within.0 e.within.1 (omega arith) (sym c.fit.ensures ∙ c.if-fit.false)
+pub returns-in_err-pattern-clause-is : goal.returns-in_err-pattern-clause-is
+returns-in_err-pattern-clause-is c =
+    rw c.from_residual.ensures (sym (no_first _ c.in_err-pattern.ensures.is))
 
-pub returns-then-end-s-clause-is : goal.returns-then-end-s-clause-is
-returns-then-end-s-clause-is c =
-    let e = c.in-At-second.ensures in
-    left_over c.args.s.now c.in-At.m c.in-At-second.end c.in-At.ensures.is e.is e.within.0 e.within.1 (omega arith)
+pub returns-in_err-text-clause-is : goal.returns-in_err-text-clause-is
+returns-in_err-text-clause-is c =
+    let first = c.in_ok-pattern.ensures.is in
+    rw c.from_residual-in_err-text.ensures (sym (no_second _ _ _ first c.in_err-text.ensures.is))
 
-pub returns-in_default-clause-is : goal.returns-in_default-clause-is
-returns-in_default-clause-is c =
-    let e = rw c.in_default.is at c.line_end-first.ensures.is in
-    sym (no_first _ (sym e))
-
-pub returns-in_default-second-clause-is : goal.returns-in_default-second-clause-is
-returns-in_default-second-clause-is c =
-    unended c.args.s.now c.in-At.m c.in-At.ensures.is (rw c.in_default-second.is at c.line_end-second.ensures.is)
+pub returns-else-is_empty-clause-is : goal.returns-else-is_empty-clause-is
+returns-else-is_empty-clause-is c =
+    let first = c.in_ok-pattern.ensures.is in
+    let second = c.in_ok-text.ensures.is in
+    elim c.else-is_empty.branch [
+      | else-is_empty-via-then-is_empty+else-fit w ↦ not_taken _ _ _ _ _ first second (search rules) (sym w.fit.ensures ∙ w.if-fit.false)
+      | else-is_empty-via-else-is_empty w ↦ left_over _ _ _ _ _ first second (search rules)
+    ]
