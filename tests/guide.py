@@ -334,7 +334,7 @@ def rattle(block, where, folder, printed):
     """A Rattle program over the crates, and what it prints: run with no proof, by the interpreter and compiled."""
     name = "guide"
     files = {
-        "crates.txt": page("crates.txt") + "%s: lines search rules bits\n" % name,
+        "crates.txt": page("crates.txt") + "%s: lines search rules bits arrayvec\n" % name,
         "crates/%s/src/main.rt" % name: "\n".join(block) + "\n",
     }
     with tempfile.TemporaryDirectory(dir=folder) as repository:

@@ -7,7 +7,7 @@ ghost use Rattle.hits.specs.Report.{places_most, pattern_most, line_most, printe
 use arrayvec::ArrayVec;
 use lines::parse::Lines;
 use lines::{line, pack, parse};
-use search::{Mark, Method, Outcome};
+use search::{Mark, Method};
 
 // "budget 2^32 − 1"
 const BUDGET: u32 = u32::MAX;
@@ -56,13 +56,14 @@ fn search_line(text: &[u8], n: u64, pattern: &[u8], m: u64, method: Method, page
         &mut list,
         &mut scratch,
     );
-    match outcome {
-        Outcome::Accepted(answer) => {
-            let places = &list[..answer.occurrences as usize];
-            line::accepted(page, method, answer.steps, places);
+    let Ok(answer) = outcome else {
+        if let Err(why) = outcome {
+            line::refused(page, method, why.number());
         }
-        Outcome::Refused(why) => line::refused(page, method, why.number()),
-    }
+        return;
+    };
+    let places = &list[..answer.occurrences as usize];
+    line::accepted(page, method, answer.steps, places);
 }
 
 // Appends the lines of the five methods to an empty page.
