@@ -12,9 +12,8 @@ use Rattle.rules.specs.Occurrence.{places}
 use Rattle.rules.specs.Scratch.{scratch_cells}
 use Rattle.search.specs.declared.Answer.{Answer}
 use Rattle.search.specs.declared.Refusal.{Refusal}
-use Rattle.search.specs.declared.Outcome.{Outcome}
-use Rattle.search.specs.declared.Outcome.TheVariants.{Accepted, Refused}
-use Rattle.search.specs.Verdict.{Request, verdict, machine, number_of_refusal, RefusedAs, AcceptedAs, Searched}
+use Rattle.std.specs.Prelude.{Ok, Err}
+use Rattle.search.specs.Verdict.{Outcome, Request, verdict, machine, number_of_refusal, RefusedAs, AcceptedAs, Searched}
 use Rattle.lines.specs.Line.{accepted_line, refused_line}
 use Rattle.hits.specs.Printed.{line_of, search_line}
 use Rattle.hits.proofs.Enough.{lent, verdict_enough}
@@ -51,12 +50,12 @@ module _ {t : Packed} {w : Pattern} {x : Method} {list scratch : List ℕ} {o : 
   unfolding search_line
   line_is = rw (verdict_enough t w x list scratch call.cells call.room)
 
-  pub refused_printed : {r : Refusal} {number : ℕ} → o ≡ Refused r → number ≡ number_of_refusal r → refused_line x number ≡ search_line t w x
+  pub refused_printed : {r : Refusal} {number : ℕ} → o ≡ Err r → number ≡ number_of_refusal r → refused_line x number ≡ search_line t w x
   refused_printed {r} is e =
       let q = rw is at as_lent in
       rw e (refused_line_lem x (lent t w x list scratch) r after free q ∙ line_is)
 
-  pub accepted_printed : {a : Answer} → o ≡ Accepted a → accepted_line x a.steps (take a.occurrences after) ≡ search_line t w x
+  pub accepted_printed : {a : Answer} → o ≡ Ok a → accepted_line x a.steps (take a.occurrences after) ≡ search_line t w x
   accepted_printed {a} is =
       let q = rw is at as_lent in
       accepted_line_lem x (lent t w x list scratch) a after free q ∙ line_is

@@ -21,10 +21,10 @@ made c =
       promise = c.search-outcome.ensures;
     }
 
-pub returns-in-Accepted-clause-is : goal.returns-in-Accepted-clause-is
-returns-in-Accepted-clause-is c =
-    rw (← accepted_printed (made (goal.at.returns-in-Accepted-clause-is c).After-search-outcome) c.in-Accepted.is) c.accepted.ensures.is
+pub returns-in-Ok-clause-is : goal.returns-in-Ok-clause-is
+returns-in-Ok-clause-is c =
+    rw (← accepted_printed (made (goal.at.returns-in-Ok-clause-is c).After-search-outcome) c.in-Ok.is) c.accepted.ensures.is
 
-pub returns-in-Refused-clause-is : goal.returns-in-Refused-clause-is
-returns-in-Refused-clause-is c =
-    rw (← refused_printed (made (goal.at.returns-in-Refused-clause-is c).After-search-outcome) c.in-Refused.is c.number.ensures) c.refused.ensures.is
+pub returns-in-Err-clause-is : goal.returns-in-Err-clause-is
+returns-in-Err-clause-is c =
+    rw (← refused_printed (made (goal.at.returns-in-Err-clause-is c).After-search-outcome) c.in-Err.is c.number.ensures) c.refused.ensures.is
