@@ -1,96 +1,58 @@
-// Cells of 32 and of 64 bits: the list and the scratch, with a content before a call that is known afterwards.
+// Cells of any type: the list, the scratch and packed bytes. What lies out of range is read as 0 and not written. A list and
+// a scratch have a content before a call that is known afterwards.
+ghost use Rattle.std.specs.Prelude.{◌≡◌, ℕ, ◌<◌, ◌≤◌, ◌↔◌, Some, IsTrue, length, take, drop, slice_get, slice_index_or, slice_set};
+ghost use Rattle.draws.specs.Content.{content};
+
 use crate::draw::content;
-use crate::number::{least_of, plus, small};
+use crate::number::Low;
 
-// What lies out of range is read as 0 and not written.
-pub fn get32(s: &[u32], i: usize) -> u32 {
-    if i < s.len() { s[i] } else { 0 }
+pub fn get<T: Copy + Default>(s: &[T], i: usize) -> T
+    ensures inside { i < length s.now → slice_get s.now i ≡ Some result }
+    ensures outside { length s.now ≤ i → T.is_default result }
+{
+    s.get(i).copied().unwrap_or_default()
 }
 
-pub fn put32(s: &mut [u32], i: usize, v: u32) {
+pub fn put<T: Copy>(s: &mut [T], i: usize, v: T)
+    ensures { s.new ≡ slice_set s.old i v }
+{
     if i < s.len() {
         s[i] = v;
     }
-}
-
-pub fn get64(s: &[u64], i: usize) -> u64 {
-    if i < s.len() { s[i] } else { 0 }
-}
-
-pub fn put64(s: &mut [u64], i: usize, v: u64) {
-    if i < s.len() {
-        s[i] = v;
-    }
-}
-
-// The first k cells, or all.
-pub fn part32(s: &[u32], k: usize) -> &[u32] {
-    let end = least_of(k, s.len());
-    &s[0..end]
-}
-
-pub fn part64(s: &[u64], k: usize) -> &[u64] {
-    let end = least_of(k, s.len());
-    &s[0..end]
 }
 
 // So many cells from `from` on, or as many as there are.
-pub fn run32(s: &[u32], from: usize, count: usize) -> &[u32] {
-    let end = least_of(plus(from, count), s.len());
-    let start = least_of(from, end);
+pub fn part<T>(s: &[T], from: usize, count: usize) -> &[T]
+    ensures { result.now ≡ take count (drop from s.now) }
+{
+    let start = from.min(s.len());
+    let end = start + count.min(s.len() - start);
     &s[start..end]
 }
 
-pub fn fill32(s: &mut [u32], x: usize) {
-    let mut i: usize = 0;
-    while i < s.len() {
-        s[i] = small(content(x, i));
-        i += 1;
-    }
-}
-
-// The cells from `from` on.
-pub fn fill64(s: &mut [u64], from: usize, x: usize) {
-    let mut i = from;
-    while i < s.len() {
-        s[i] = content(x, i) as u64;
-        i += 1;
+// Fills the cells from `from` on.
+pub fn fill<T: Low>(s: &mut [T], from: usize, x: usize)
+    ensures before { take from s.new ≡ take from s.old }
+    ensures filled { (k : ℕ) → from ≤ k → k < length s.new → slice_index_or s.new k (T.low (content x k)) ≡ T.low (content x k) }
+{
+    for i in from..s.len() {
+        s[i] = T::low(content(x, i));
     }
 }
 
 // Whether the cells from `from` on are as they were filled.
-pub fn stay32(s: &[u32], from: usize, x: usize) -> bool {
-    let mut i = from;
-    while i < s.len() {
-        if s[i] != small(content(x, i)) {
+pub fn stay<T: Low>(s: &[T], from: usize, x: usize) -> bool
+    ensures { IsTrue result ↔ ((k : ℕ) → from ≤ k → k < length s.now → IsTrue (T.eq (slice_index_or s.now k (T.low (content x k))) (T.low (content x k)))) }
+{
+    for i in from..s.len() {
+        if s[i] != T::low(content(x, i)) {
             return false;
         }
-        i += 1;
-    }
-    true
-}
-
-pub fn stay64(s: &[u64], from: usize, x: usize) -> bool {
-    let mut i = from;
-    while i < s.len() {
-        if s[i] != content(x, i) as u64 {
-            return false;
-        }
-        i += 1;
     }
     true
 }
 
 // Whether the first cells, so many, hold first, first + apart, first + 2 apart and so on.
 pub fn listed(list: &[u32], hits: usize, first: usize, apart: usize) -> bool {
-    let mut p = first;
-    let mut i: usize = 0;
-    while i < hits {
-        if get32(list, i) != small(p) {
-            return false;
-        }
-        p = plus(p, apart);
-        i += 1;
-    }
-    true
+    (0..hits).all(|i| get(list, i) == u32::low(first.wrapping_add(i.wrapping_mul(apart))))
 }

@@ -1,30 +1,40 @@
-// Sums and differences that never stop, for indices that a drawn case may put out of range.
-ghost use Rattle.std.specs.Prelude.{◌≤◌};
+// Numbers that a drawn case may put out of range: nothing here stops.
+ghost use Rattle.std.specs.Prelude.{◌≡◌, ◌%◌, ℕ};
 
-pub fn plus(a: usize, b: usize) -> usize {
-    std::num::wrapping_add_usize(a, b)
+// A type of numbers that larger ones are cut down to.
+pub trait Low: Copy + PartialEq {
+    ghost low: { ℕ → Self };
+
+    // The last bits of a number, as many as the type has.
+    fn low(x: usize) -> Self
+        ensures { result ≡ low x };
 }
 
-// a − b, or 0.
-pub fn minus(a: usize, b: usize) -> usize {
-    if b <= a { a - b } else { 0 }
+impl Low for u8 {
+    ghost low = { λ x. x % 256 };
+
+    fn low(x: usize) -> u8 {
+        (x % 256) as u8
+    }
 }
 
-pub fn least_of(a: usize, b: usize) -> usize
-    ensures { (result ≤ a) × (result ≤ b) }
-{
-    if a < b { a } else { b }
+impl Low for u32 {
+    ghost low = { λ x. x % 4294967296 };
+
+    fn low(x: usize) -> u32 {
+        (x % 4294967296) as u32
+    }
 }
 
-// The bytes that so many bits need.
+impl Low for u64 {
+    ghost low = { λ x. x };
+
+    fn low(x: usize) -> u64 {
+        x as u64
+    }
+}
+
+// The bytes that so many bits need. The sum wraps for the last seven numbers, unlike `div_ceil`.
 pub fn ceiling(bits: usize) -> usize {
-    plus(bits, 7) / 8
-}
-
-pub fn small(x: usize) -> u32 {
-    (x % 4294967296) as u32
-}
-
-pub fn byte(x: usize) -> u8 {
-    (x % 256) as u8
+    bits.wrapping_add(7) / 8
 }

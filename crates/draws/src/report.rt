@@ -1,8 +1,8 @@
 // The lines that a program of trials prints.
-ghost use Rattle.std.specs.Prelude.{◌≡◌, List, [], ◌∷◌, ◌++◌, OnOk, decimal};
+ghost use Rattle.std.specs.Prelude.{◌≡◌, ◌≤◌, List, [], ◌∷◌, ◌++◌, OnOk, IfOk, decimal};
 ghost use Rattle.std.specs.Io.KnownBytes.{Appends};
 
-use crate::{draw, packed};
+use crate::draw;
 use std::io;
 use std::io::Write;
 
@@ -14,40 +14,45 @@ pub fn line<W: Write>(out: &mut W, name: &[u8], count: usize) -> io::Result<()>
     out.writeln(count)
 }
 
-// Prints the line of a kind; the answer is how many cases it has. A name has 32 bytes of room in `names`; in `counts` stand,
-// for each kind, where its name ends and how many cases it has.
-pub fn kind_line<W: Write>(
-    out: &mut W,
-    names: &[u8],
-    counts: &[usize],
-    kind: usize,
-) -> io::Result<usize> {
-    let k = kind % 32;
-    let count = draw::entry(counts, 2 * k + 1);
-    line(
-        out,
-        packed::part(names, 32 * k, draw::entry(counts, 2 * k)),
-        count,
-    )?;
-    Ok(count)
+// A kind of cases: its name, with the space that follows it in a line, how many cases it has, and which they are.
+#[derive(Clone, Copy)]
+pub struct Kind<C> {
+    pub name: &'static [u8],
+    pub count: usize,
+    pub cases: C,
 }
 
-// How many disagree of one case, which is good or not. A case that is not good is printed, by its kind's name and its
-// number, so that it can be found again.
-pub fn disagreement<W: Write>(
-    out: &mut W,
-    names: &[u8],
-    counts: &[usize],
-    kind: usize,
-    case: usize,
-    good: bool,
-) -> io::Result<usize> {
-    if good {
-        return Ok(0);
-    }
-    let k = kind % 32;
+// Prints a case that disagrees, by its kind's name and its number, so that it can be found again.
+fn disagreement<W: Write>(out: &mut W, kind: &[u8], case: usize) -> io::Result<()> {
     out.write_all(b"disagreement: ")?;
-    out.write_all(packed::part(names, 32 * k, draw::entry(counts, 2 * k)))?;
-    line(out, b"case ", case)?;
-    Ok(1)
+    out.write_all(kind)?;
+    line(out, b"case ", case)
+}
+
+// The first number that a kind of cases draws; the next kinds have the next ones.
+const SEED: usize = 88172645463325252;
+
+// Prints the line of a kind, which has this number, and each of its cases that disagrees: the answer is how many these are.
+// `agrees` is told which kind it is, the case's number and a drawn one.
+pub fn many<W: Write, C: Copy, F: Fn(C, usize, usize) -> bool>(
+    out: &mut W,
+    kind: &Kind<C>,
+    number: usize,
+    agrees: F,
+) -> io::Result<usize>
+    requires { F.IsAlwaysCallable agrees }
+    ensures few { IfOk result (λ wrong. wrong ≤ kind.now.count) }
+    ensures quiet { IfOk result (λ wrong. wrong ≡ 0 → Appends (W.contents out.old) (W.contents out.new) (kind.now.name.now ++ (decimal kind.now.count ++ (10 ∷ [])))) }
+{
+    line(out, kind.name, kind.count)?;
+    let mut wrong = 0;
+    let mut x = SEED.wrapping_add(number);
+    for case in 0..kind.count {
+        x = draw::next(x);
+        if !agrees(kind.cases, case, x) {
+            disagreement(out, kind.name, case)?;
+            wrong += 1;
+        }
+    }
+    Ok(wrong)
 }

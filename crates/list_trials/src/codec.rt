@@ -1,22 +1,21 @@
-// A naive writer and reader of the position list file, from the words of documents 01 and 02. Faults are their numbers above
-// REFUSED.
-use draws::cells::get32;
-use draws::number::{byte, minus, plus, small};
-use draws::packed::{get8, put8};
-
-// Refusals are above every count.
-pub(crate) const REFUSED: usize = 1000000;
+// A naive writer and reader of the position list file, from the words of documents 01 and 02.
+use draws::cells::{get, put};
+use draws::number::Low;
 
 const LIMIT: usize = 1073741824;
 
 // Where the naive writer's file lies in a buffer; what the library writes lies at the front.
 pub(crate) const FILE: usize = 128;
 
-// What a case came to: a count, or a refusal's number above REFUSED; and whether that is right.
+// A refusal, by its number in the documents' tables.
+#[derive(Clone, Copy, PartialEq, Eq)]
+pub(crate) struct Refused(pub u32);
+
+// What the library answered in a case, and whether that is right.
 #[derive(Clone, Copy)]
-pub(crate) struct Judged {
+pub(crate) struct Judged<T> {
     pub good: bool,
-    pub number: usize,
+    pub answer: Result<T, Refused>,
 }
 
 // The groups of a number from `start` on, and the index after them.
@@ -24,112 +23,74 @@ fn put_number(out: &mut [u8], start: usize, number: usize) -> usize {
     let mut at = start;
     let mut rest = number;
     while 128 <= rest {
-        put8(out, at, byte(rest % 128 + 128));
-        at = plus(at, 1);
-        rest = rest / 128;
+        put(out, at, u8::low(rest % 128 + 128));
+        at = at.wrapping_add(1);
+        rest /= 128;
     }
-    put8(out, at, byte(rest));
-    plus(at, 1)
+    put(out, at, u8::low(rest));
+    at.wrapping_add(1)
 }
 
-// The file of a list, and how many bytes it has; or 8.
-pub(crate) fn encode(list: &[u32], out: &mut [u8]) -> usize {
+// The file of a list, and how many bytes it has.
+pub(crate) fn encode(list: &[u32], out: &mut [u8]) -> Result<usize, Refused> {
     let mut at = put_number(out, FILE, list.len());
-    let mut least: usize = 0;
-    let mut i: usize = 0;
-    while i < list.len() {
-        let p = get32(list, i) as usize;
-        if (p < least) | (LIMIT <= p) {
-            return REFUSED + 8;
+    let mut least = 0;
+    for &p in list {
+        let p = p as usize;
+        if p < least || LIMIT <= p {
+            return Err(Refused(8));
         }
-        at = put_number(out, at, minus(p, least));
-        least = plus(p, 1);
-        i += 1;
+        at = put_number(out, at, p - least);
+        least = p + 1;
     }
-    minus(at, FILE)
+    Ok(at.saturating_sub(FILE))
 }
 
-// A number on top of `base`, and the index after it; or its fault.
-#[derive(Clone, Copy)]
-struct Number {
-    fault: usize,
-    value: usize,
-    after: usize,
-}
-
-// The fault of a number whose last group, with index k, is b.
-fn last_group(b: usize, k: usize, value: usize, top: usize) -> usize {
-    if (0 < k) & (b == 0) {
-        return REFUSED + 11;
-    }
-    if top < value { REFUSED + 12 } else { 0 }
-}
-
-// `base` and the number at `start`, which may come to `top`.
-fn get_number(file: &[u8], start: usize, base: usize, top: usize) -> Number {
+// `base` and the number at the front of a file, which may come to `top`; and the bytes after it.
+fn number(file: &[u8], base: usize, top: usize) -> Result<(usize, &[u8]), Refused> {
     let mut value = base;
-    let mut at = start;
-    let mut k: usize = 0;
+    for k in 0..5 {
+        let Some(&group) = file.get(k) else {
+            return Err(Refused(10));
+        };
+        value = value.wrapping_add((group as usize % 128) << (7 * k));
+        if group < 128 {
+            if 0 < k && group == 0 {
+                return Err(Refused(11));
+            }
+            if top < value {
+                return Err(Refused(12));
+            }
+            return Ok((value, &file[k + 1..]));
+        }
+    }
     // the fifth group says that another follows
-    let mut fault = REFUSED + 12;
-    while k < 5 {
-        let b = get8(file, at) as usize;
-        value = plus(value, (b % 128) << (7 * k));
-        if file.len() <= at {
-            fault = REFUSED + 10;
-            break;
-        }
-        at = plus(at, 1);
-        if b < 128 {
-            fault = last_group(b, k, value, top);
-            break;
-        }
-        k += 1;
-    }
-    Number {
-        fault: fault,
-        value: value,
-        after: at,
-    }
+    Err(Refused(12))
 }
 
-// The count of a file's positions, or its first fault, or 14 for a good file with fewer cells than its count; and whether the
-// cells hold the positions.
-pub(crate) fn decode(file: &[u8], room: usize, cells: &[u32]) -> Judged {
-    let first = get_number(file, 0, 0, LIMIT);
-    if 0 < first.fault {
-        return refused(first.fault);
+// A file that is read: how many positions it has, and whether the cells hold them.
+#[derive(Clone, Copy)]
+pub(crate) struct Read {
+    pub count: usize,
+    pub held: bool,
+}
+
+// What a file is read as, or its first fault; or 14 for a good file with fewer cells than its count.
+pub(crate) fn decode(file: &[u8], room: usize, cells: &[u32]) -> Result<Read, Refused> {
+    let (count, mut rest) = number(file, 0, LIMIT)?;
+    let mut held = true;
+    let mut least = 0;
+    for i in 0..count {
+        let (p, after) = number(rest, least, LIMIT - 1)?;
+        held &= get(cells, i) == u32::low(p);
+        least = p.wrapping_add(1);
+        rest = after;
     }
-    let count = first.value;
-    let mut good = true;
-    let mut at = first.after;
-    let mut least: usize = 0;
-    let mut i: usize = 0;
-    while i < count {
-        let one = get_number(file, at, least, LIMIT - 1);
-        if 0 < one.fault {
-            return refused(one.fault);
-        }
-        good = good & (get32(cells, i) == small(one.value));
-        least = plus(one.value, 1);
-        at = one.after;
-        i += 1;
-    }
-    if at < file.len() {
-        return refused(REFUSED + 13);
+    if !rest.is_empty() {
+        return Err(Refused(13));
     }
     if room < count {
-        return refused(REFUSED + 14);
+        return Err(Refused(14));
     }
-    Judged {
-        good: good,
-        number: count,
-    }
-}
-
-fn refused(number: usize) -> Judged {
-    Judged {
-        good: true,
-        number: number,
-    }
+    Ok(Read { count, held })
 }

@@ -9,147 +9,191 @@ mod naive;
 mod naive_set;
 mod named;
 mod rows;
+mod run;
 mod set_call;
 mod sets;
 mod single;
 mod wild;
 
-use draws::{draw, number, packed, report};
+use draws::report::Kind;
+use draws::{packed, report};
+use search::Method;
 use std::io;
-use std::io::Write;
 
-// A case of a kind, by its number and a drawn one, over a buffer of bytes and a list. The buffer is drawn, but zero for the
-// named cases; a set has a buffer of its own.
-fn one(kind: usize, i: usize, x: usize) -> bool {
+// What the cases of a kind are; a flag says whether patterns have wild bits.
+#[derive(Clone, Copy)]
+enum Cases {
+    Whole(Method, bool),
+    Calls(bool),
+    Refusals(bool),
+    EightBits,
+    EveryEight,
+    HashValue(bool),
+    EachLength(bool),
+    FreeBits,
+    Named,
+    Sets(sets::Kind),
+}
+
+// Whether a case agrees, by its number and a drawn one, over a buffer of drawn bytes and a list. Named cases and sets have
+// buffers of their own.
+fn agrees(cases: Cases, i: usize, x: usize) -> bool {
     let mut s = [0u8; packed::BYTES];
-    let mut list = [0u32; 4400];
-    if (20 < kind) & (kind < 25) {
-        return sets::one(kind, x, &mut list);
-    }
-    if kind == 10 {
-        return named::one(i, x, &mut s, &mut list);
-    }
+    let mut list = [0u32; drawn::CELLS];
     packed::fill(&mut s, x);
-    match kind {
-        7 => single::eight_bits(x, &mut s),
-        8 => single::drawn_hash(0, x, &mut s),
-        9 => drawn::every_length(0, i, x, &mut s, &mut list),
-        18 => drawn::free_bits(i, x, &mut s, &mut list),
-        19 => single::drawn_hash(1, x, &mut s),
-        20 => drawn::every_length(1, i, x, &mut s, &mut list),
-        25 => single::every_eight(i, &mut s),
-        _ => drawn::one(kind, i, x, &mut s, &mut list),
+    match cases {
+        Cases::Whole(method, wild) => drawn::whole(method, wild, x, &mut s, &mut list),
+        Cases::Calls(wild) => drawn::twelve_calls(wild, x, &mut s, &mut list),
+        Cases::Refusals(wild) => drawn::refusals(wild, i, x, &mut s, &mut list),
+        Cases::EightBits => single::eight_bits(x, &mut s),
+        Cases::EveryEight => single::every_eight(i, &mut s),
+        Cases::HashValue(wild) => single::drawn_hash(wild, x, &mut s),
+        Cases::EachLength(wild) => drawn::every_length(wild, i, x, &mut s, &mut list),
+        Cases::FreeBits => drawn::free_bits(i, x, &mut s, &mut list),
+        Cases::Named => named::one(i, x),
+        Cases::Sets(kind) => sets::one(kind, x),
     }
 }
 
-// The cases of a kind: how many disagree. Each of these is printed after the kind's line.
-fn many<W: Write>(out: &mut W, names: &[u8], counts: &[usize], kind: usize) -> io::Result<usize> {
-    let count = report::kind_line(out, names, counts, kind)?;
-    let mut wrong: usize = 0;
-    let mut x = 88172645463325252 + kind % 32;
-    let mut i: usize = 0;
-    while i < count {
-        x = draw::next(x);
-        let good = one(kind, i, x);
-        let more = report::disagreement(out, names, counts, kind, i, good)?;
-        wrong = number::plus(wrong, more);
-        i += 1;
-    }
-    Ok(wrong)
-}
-
-// The kinds: their names, and where each one's name ends and how many cases it has.
-const NAMES: [u8; 832] = *b"\
-    plain, whole                    \
-    hash, whole                     \
-    skip, whole                     \
-    wide, whole                     \
-    tail, whole                     \
-    lists of twelve calls           \
-    refusals and their neighbours   \
-    eight bits                      \
-    H                               \
-    each length, exact scratch      \
-    named                           \
-    plain, wild bits                \
-    hash, wild bits                 \
-    skip, wild bits                 \
-    wide, wild bits                 \
-    tail, wild bits                 \
-    twelve calls, wild bits         \
-    refusals, wild bits             \
-    bits that do not matter         \
-    H, wild bits                    \
-    each length, wild bits          \
-    sets, whole                     \
-    sets, lists of twelve calls     \
-    sets, refusals, neighbours      \
-    sets, one pattern as plain      \
-    eight bits, each n up to 70     ";
-
-const COUNTS: [usize; 52] = [
-    13,
-    30000,
-    12,
-    30000,
-    12,
-    30000,
-    12,
-    30000,
-    12,
-    30000,
-    22,
-    10000,
-    30,
-    drawn::ROWS,
-    11,
-    40000,
-    2,
-    40000,
-    27,
-    drawn::LENGTHS,
-    6,
-    named::CASES,
-    17,
-    10000,
-    16,
-    10000,
-    16,
-    10000,
-    16,
-    10000,
-    16,
-    10000,
-    24,
-    3000,
-    20,
-    drawn::ROWS,
-    24,
-    4000,
-    13,
-    20000,
-    23,
-    drawn::LENGTHS,
-    12,
-    4000,
-    28,
-    1500,
-    27,
-    4000,
-    27,
-    3000,
-    28,
-    single::EIGHTS,
+const KINDS: [Kind<Cases>; 26] = [
+    Kind {
+        name: b"plain, whole ",
+        count: 30000,
+        cases: Cases::Whole(Method::Plain, false),
+    },
+    Kind {
+        name: b"hash, whole ",
+        count: 30000,
+        cases: Cases::Whole(Method::Hash, false),
+    },
+    Kind {
+        name: b"skip, whole ",
+        count: 30000,
+        cases: Cases::Whole(Method::Skip, false),
+    },
+    Kind {
+        name: b"wide, whole ",
+        count: 30000,
+        cases: Cases::Whole(Method::Wide, false),
+    },
+    Kind {
+        name: b"tail, whole ",
+        count: 30000,
+        cases: Cases::Whole(Method::Tail, false),
+    },
+    Kind {
+        name: b"lists of twelve calls ",
+        count: 10000,
+        cases: Cases::Calls(false),
+    },
+    Kind {
+        name: b"refusals and their neighbours ",
+        count: drawn::ROWS,
+        cases: Cases::Refusals(false),
+    },
+    Kind {
+        name: b"eight bits ",
+        count: 40000,
+        cases: Cases::EightBits,
+    },
+    Kind {
+        name: b"H ",
+        count: 40000,
+        cases: Cases::HashValue(false),
+    },
+    Kind {
+        name: b"each length, exact scratch ",
+        count: drawn::LENGTHS,
+        cases: Cases::EachLength(false),
+    },
+    Kind {
+        name: b"named ",
+        count: named::CASES,
+        cases: Cases::Named,
+    },
+    Kind {
+        name: b"plain, wild bits ",
+        count: 10000,
+        cases: Cases::Whole(Method::Plain, true),
+    },
+    Kind {
+        name: b"hash, wild bits ",
+        count: 10000,
+        cases: Cases::Whole(Method::Hash, true),
+    },
+    Kind {
+        name: b"skip, wild bits ",
+        count: 10000,
+        cases: Cases::Whole(Method::Skip, true),
+    },
+    Kind {
+        name: b"wide, wild bits ",
+        count: 10000,
+        cases: Cases::Whole(Method::Wide, true),
+    },
+    Kind {
+        name: b"tail, wild bits ",
+        count: 10000,
+        cases: Cases::Whole(Method::Tail, true),
+    },
+    Kind {
+        name: b"twelve calls, wild bits ",
+        count: 3000,
+        cases: Cases::Calls(true),
+    },
+    Kind {
+        name: b"refusals, wild bits ",
+        count: drawn::ROWS,
+        cases: Cases::Refusals(true),
+    },
+    Kind {
+        name: b"bits that do not matter ",
+        count: 4000,
+        cases: Cases::FreeBits,
+    },
+    Kind {
+        name: b"H, wild bits ",
+        count: 20000,
+        cases: Cases::HashValue(true),
+    },
+    Kind {
+        name: b"each length, wild bits ",
+        count: drawn::LENGTHS,
+        cases: Cases::EachLength(true),
+    },
+    Kind {
+        name: b"sets, whole ",
+        count: 4000,
+        cases: Cases::Sets(sets::Kind::Whole),
+    },
+    Kind {
+        name: b"sets, lists of twelve calls ",
+        count: 1500,
+        cases: Cases::Sets(sets::Kind::Calls),
+    },
+    Kind {
+        name: b"sets, refusals, neighbours ",
+        count: 4000,
+        cases: Cases::Sets(sets::Kind::Refusals),
+    },
+    Kind {
+        name: b"sets, one pattern as plain ",
+        count: 3000,
+        cases: Cases::Sets(sets::Kind::OnePattern),
+    },
+    Kind {
+        name: b"eight bits, each n up to 70 ",
+        count: single::EIGHTS,
+        cases: Cases::EveryEight,
+    },
 ];
 
 fn main(rt: HostRuntime) -> io::Result<()> {
     let mut out = io::writer(&rt);
     let mut wrong: usize = 0;
-    let mut kind: usize = 0;
-    while kind < 26 {
-        let more = many(&mut out, &NAMES, &COUNTS, kind)?;
-        wrong = number::plus(wrong, more);
-        kind += 1;
+    for (number, kind) in KINDS.iter().enumerate() {
+        let more = report::many(&mut out, kind, number, agrees)?;
+        wrong = wrong.saturating_add(more);
     }
     report::line(&mut out, b"disagreements ", wrong)
 }

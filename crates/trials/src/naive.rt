@@ -1,242 +1,202 @@
 // A naive search, bit by bit, and the table of refusals: the written rules of documents 01 and 02. The pattern lies at
 // the front of a buffer, the text from TEXT on, and the pattern's second run from FIXED on.
 use crate::call::Call;
-use draws::cells::get32;
-use draws::number::{ceiling, minus, plus, small};
+use crate::run::{Judged, Refused, Run, Stop};
+use draws::cells::get;
+use draws::number::{Low, ceiling};
 use draws::packed::{FIXED_BIT, TEXT_BIT, bit};
-
-// What a call comes to: the number of its refusal, or 0; steps, occurrences written and the mark; and how it stopped: 0
-// done, 1 full, 2 spent.
-#[derive(Clone, Copy)]
-pub(crate) struct Run {
-    pub refusal: usize,
-    pub steps: usize,
-    pub hits: usize,
-    pub mark: usize,
-    pub stop: usize,
-    // The naive search's own: where its step ends, and whether the list that it was shown holds what is to be written.
-    pub next: usize,
-    pub good: bool,
-}
+use search::Method;
 
 // The number of places.
 pub(crate) fn places(n: usize, m: usize) -> usize {
-    if m <= n { plus(minus(n, m), 1) } else { 0 }
+    if m <= n { (n - m).wrapping_add(1) } else { 0 }
 }
 
-// The shortest and the longest pattern that a method takes.
-const SHORTEST: [usize; 5] = [1, 8, 15, 1, 1];
-
-const LONGEST: [usize; 5] = [2048, 2048, 2048, 2048, 64];
-
-pub(crate) fn shortest(way: usize) -> usize {
-    SHORTEST[way % 5]
+// The shortest pattern that a method takes.
+pub(crate) fn shortest(method: Method) -> usize {
+    match method {
+        Method::Plain | Method::Wide | Method::Tail => 1,
+        Method::Hash => 8,
+        Method::Skip => 15,
+    }
 }
 
-// Whether the method takes no pattern of m bits.
-pub(crate) fn unfit(way: usize, m: usize) -> bool {
-    (m < SHORTEST[way % 5]) | (LONGEST[way % 5] < m)
+// The longest one.
+fn longest(method: Method) -> usize {
+    match method {
+        Method::Plain | Method::Hash | Method::Skip | Method::Wide => 2048,
+        Method::Tail => 64,
+    }
+}
+
+// Whether the method takes a pattern of m bits.
+pub(crate) fn takes(method: Method, m: usize) -> bool {
+    shortest(method) <= m && m <= longest(method)
 }
 
 // How many cells of scratch a method takes for a pattern of m bits: a byte of a row to a cell, eight rows and their
 // masks; two entries for each value of a byte; one for each and a link for each index; two words for each bit of a
-// window of 64 places; two words. The remainders only keep a product of any m from growing too large.
-pub(crate) fn figure(way: usize, m: usize) -> usize {
-    match way {
-        0 => ceiling(plus(m, 7)) % 65536 * 16,
-        1 => 512,
-        2 => plus(256, m),
-        3 => plus(63, m) % 65536 * 2,
-        _ => 2,
+// window of 64 places; two words.
+pub(crate) fn figure(method: Method, m: usize) -> usize {
+    match method {
+        Method::Plain => ceiling(m.wrapping_add(7)).wrapping_mul(16),
+        Method::Hash => 512,
+        Method::Skip => m.wrapping_add(256),
+        Method::Wide => m.wrapping_add(63).wrapping_mul(2),
+        Method::Tail => 2,
     }
 }
 
-// The first row of the table of refusals whose condition holds, or 0. The rows are taken from the last one on, so that the
-// first one stays.
-pub(crate) fn refusal(c: Call) -> usize {
-    let mut why: usize = 0;
-    if c.scratch < figure(c.way, c.m) {
-        why = 7;
-    }
-    if places(c.n, c.m) < c.mark {
-        why = 6;
-    }
-    if unfit(c.way, c.m) {
-        why = 5;
-    }
-    if c.fixed < ceiling(c.m) {
-        why = 17;
-    }
-    if c.pattern < ceiling(c.m) {
-        why = 4;
-    }
-    if (c.m == 0) | (2048 < c.m) {
-        why = 3;
+// The first row of the table of refusals whose condition holds.
+pub(crate) fn check(c: Call) -> Result<(), Refused> {
+    if 1073741824 < c.n {
+        return Err(Refused(1));
     }
     if c.text < ceiling(c.n) {
-        why = 2;
+        return Err(Refused(2));
     }
-    if 1073741824 < c.n {
-        why = 1;
+    if c.m == 0 || 2048 < c.m {
+        return Err(Refused(3));
     }
-    why
+    if c.pattern < ceiling(c.m) {
+        return Err(Refused(4));
+    }
+    if c.fixed < ceiling(c.m) {
+        return Err(Refused(17));
+    }
+    if !takes(c.method, c.m) {
+        return Err(Refused(5));
+    }
+    if places(c.n, c.m) < c.mark {
+        return Err(Refused(6));
+    }
+    if c.scratch < figure(c.method, c.m) {
+        return Err(Refused(7));
+    }
+    Ok(())
 }
 
 // Whether the bit b agrees with bit j of the pattern: it equals that bit, or that bit is wild.
 fn agrees(s: &[u8], j: usize, b: u8) -> bool {
-    (bit(s, j) == b) | (bit(s, plus(FIXED_BIT, j)) == 0)
+    bit(s, j) == b || bit(s, j.wrapping_add(FIXED_BIT)) == 0
 }
 
 // Whether k bits from p on agree with those of the pattern from j on.
 fn shows(s: &[u8], j: usize, p: usize, k: usize) -> bool {
-    let mut o: usize = 0;
-    while o < k {
-        if !agrees(s, plus(j, o), bit(s, plus(p, o))) {
-            return false;
-        }
-        o += 1;
-    }
-    true
+    (0..k).all(|o| agrees(s, j.wrapping_add(o), bit(s, p.wrapping_add(o))))
 }
 
-// The least d from `first` to m that meets H's condition: the pattern, moved by d, shows the eight bits from p on. The
-// first bits of the value may lie before the pattern.
+// Whether the pattern, moved by d, shows the eight bits from p on. The first of these bits may lie before the pattern.
+fn shows_moved(s: &[u8], m: usize, p: usize, d: usize) -> bool {
+    let end = d.wrapping_add(8);
+    let before = end.saturating_sub(m);
+    shows(
+        s,
+        m.saturating_sub(end),
+        p.wrapping_add(before),
+        8usize.saturating_sub(before),
+    )
+}
+
+// The least d from `first` to m that meets H's condition.
 pub(crate) fn least(s: &[u8], m: usize, p: usize, first: usize) -> usize {
-    let mut d = first;
-    while d < m {
-        let before = minus(plus(d, 8), m);
-        if shows(s, minus(m, plus(d, 8)), plus(p, before), minus(8, before)) {
-            return d;
-        }
-        d += 1;
-    }
-    m
+    (first..m).find(|&d| shows_moved(s, m, p, d)).unwrap_or(m)
 }
 
 // One more than the greatest index of the pattern whose bit is wild or equals b, or 0.
 fn last_index(s: &[u8], m: usize, b: u8) -> usize {
-    let mut k = m;
-    while 0 < k {
-        if agrees(s, k - 1, b) {
-            return k;
-        }
-        k -= 1;
-    }
-    0
+    (0..m)
+        .rev()
+        .find(|&j| agrees(s, j, b))
+        .map_or(0, |j| j.wrapping_add(1))
 }
 
 fn next_hash(s: &[u8], m: usize, at: usize) -> usize {
-    let p = minus(plus(plus(TEXT_BIT, at), m), 8);
-    let d = least(s, m, p, 0);
-    if 0 < d {
-        plus(at, d)
-    } else {
-        plus(at, least(s, m, p, 1))
+    let p = at.wrapping_add(m).wrapping_add(TEXT_BIT).saturating_sub(8);
+    match least(s, m, p, 0) {
+        0 => at.wrapping_add(least(s, m, p, 1)),
+        d => at.wrapping_add(d),
     }
 }
 
 fn next_wide(s: &[u8], n: usize, m: usize, at: usize) -> usize {
     // s + ws
-    let after = plus(plus(at, m), 63);
+    let after = at.wrapping_add(m).wrapping_add(63);
     if n <= after {
         return n;
     }
     // s + ws − k, or s + ws + 1
-    minus(
-        plus(after, 1),
-        last_index(s, m, bit(s, plus(TEXT_BIT, after))),
-    )
+    let last = last_index(s, m, bit(s, after.wrapping_add(TEXT_BIT)));
+    after.wrapping_add(1).saturating_sub(last)
 }
 
 // The greatest length r below m such that the window's last r bits, those before `end`, agree with the pattern's first r
 // bits. Length 0 always is one.
 fn prefix_length(s: &[u8], m: usize, end: usize) -> usize {
-    let mut r = minus(m, 1);
-    while 0 < r {
-        if shows(s, 0, minus(end, r), r) {
-            return r;
-        }
-        r -= 1;
-    }
-    0
+    (1..m)
+        .rev()
+        .find(|&r| shows(s, 0, end.saturating_sub(r), r))
+        .unwrap_or(0)
 }
 
 fn next_tail(s: &[u8], m: usize, at: usize) -> usize {
     // s + m − r
-    let after = plus(at, m);
-    minus(after, prefix_length(s, m, plus(TEXT_BIT, after)))
+    let after = at.wrapping_add(m);
+    after.saturating_sub(prefix_length(s, m, after.wrapping_add(TEXT_BIT)))
 }
 
 // The method's next mark, not cut down to the number of places.
 fn next_mark(c: Call, s: &[u8], at: usize) -> usize {
-    let way = c.way;
-    match way {
-        0 => plus(at, 1),
-        1 => next_hash(s, c.m, at),
-        2 => plus(minus(plus(at, c.m) / 8 * 8, 8), 1),
-        3 => next_wide(s, c.n, c.m, at),
-        _ => next_tail(s, c.m, at),
+    match c.method {
+        Method::Plain => at.wrapping_add(1),
+        Method::Hash => next_hash(s, c.m, at),
+        Method::Skip => (at.wrapping_add(c.m) / 8 * 8)
+            .saturating_sub(8)
+            .wrapping_add(1),
+        Method::Wide => next_wide(s, c.n, c.m, at),
+        Method::Tail => next_tail(s, c.m, at),
     }
-}
-
-// A step begins at a place, unless the budget is spent.
-fn begun(mut run: Run, c: Call, s: &[u8], at: usize) -> Run {
-    if run.steps == c.budget {
-        run.stop = 2;
-    } else {
-        run.steps = plus(run.steps, 1);
-        run.next = next_mark(c, s, at);
-    }
-    run
-}
-
-// A place is decided. An occurrence is written, unless the list is full: the step that this cuts is not counted.
-fn decided(mut run: Run, c: Call, s: &[u8], list: &[u32], at: usize) -> Run {
-    let hit = shows(s, 0, plus(TEXT_BIT, at), c.m);
-    if hit & (run.hits == c.room) {
-        run.stop = 1;
-        run.steps = minus(run.steps, 1);
-    } else {
-        run.good = run.good & (!hit | (get32(list, run.hits) == small(at)));
-        run.hits = plus(run.hits, hit as usize);
-        run.mark = plus(at, 1);
-    }
-    run
-}
-
-// The next place, unless the call stopped before. A step begins where the last one ends.
-fn moved(run: Run, c: Call, s: &[u8], list: &[u32], at: usize) -> Run {
-    let mut now = run;
-    if (run.stop == 0) & (at == run.next) {
-        now = begun(run, c, s, at);
-    }
-    if now.stop == 0 {
-        now = decided(now, c, s, list, at);
-    }
-    now
 }
 
 // What a call is to come to, and whether the list holds what is to be written: every occurrence from the mark on to the
-// new mark, by the definition.
-pub(crate) fn search(c: Call, s: &[u8], list: &[u32]) -> Run {
-    let why = refusal(c);
+// new mark, by the definition. A step begins where the last one ends. One that a full list cuts is not counted.
+pub(crate) fn search(c: Call, s: &[u8], list: &[u32]) -> Judged {
+    if let Err(why) = check(c) {
+        return Judged {
+            good: true,
+            answer: Err(why),
+        };
+    }
+    let mut good = true;
     let mut run = Run {
-        refusal: why,
         steps: 0,
         hits: 0,
         mark: c.mark,
-        stop: 0,
-        next: c.mark,
-        good: true,
+        stop: Stop::Done,
     };
-    if 0 < why {
-        return run;
+    let mut next = c.mark;
+    for at in c.mark..places(c.n, c.m) {
+        if at == next {
+            if run.steps == c.budget {
+                run.stop = Stop::Spent;
+                break;
+            }
+            run.steps = run.steps.wrapping_add(1);
+            next = next_mark(c, s, at);
+        }
+        if shows(s, 0, at.wrapping_add(TEXT_BIT), c.m) {
+            if run.hits == c.room {
+                run.stop = Stop::Full(at);
+                run.steps = run.steps.saturating_sub(1);
+                break;
+            }
+            good = good && get(list, run.hits) == u32::low(at);
+            run.hits = run.hits.wrapping_add(1);
+        }
+        run.mark = at + 1;
     }
-    let end = places(c.n, c.m);
-    let mut at = c.mark;
-    while at < end {
-        run = moved(run, c, s, list, at);
-        at += 1;
+    Judged {
+        good,
+        answer: Ok(run),
     }
-    run
 }

@@ -1,22 +1,11 @@
 // A naive search for a set, bit by bit, and its refusals: document 02's words on a set. The patterns lie one after the other
 // from SET on, each beginning on the byte after the one before, and their second runs alike from SET_FIXED on.
 use crate::naive::places;
+use crate::run::{Judged, Refused, Run, Stop};
 use crate::set_call::{SET_BIT, SET_FIXED_BIT, SetCall};
-use draws::cells::{get32, get64};
-use draws::number::{ceiling, minus, plus, small};
+use draws::cells::get;
+use draws::number::{Low, ceiling};
 use draws::packed::{TEXT_BIT, bit};
-
-// What a call comes to: the number of its refusal, or 0; steps, pairs written and the mark; and how it stopped: 0 done, 1
-// full, 2 spent. And whether the list that was shown holds the pairs that are to be written.
-#[derive(Clone, Copy)]
-pub(crate) struct SetRun {
-    pub refusal: usize,
-    pub steps: usize,
-    pub pairs: usize,
-    pub mark: usize,
-    pub stop: usize,
-    pub good: bool,
-}
 
 // The patterns of a place: how many stand there, and whether the list holds their pairs.
 #[derive(Clone, Copy)]
@@ -25,162 +14,117 @@ struct Found {
     good: bool,
 }
 
-// The bit count of pattern i.
-fn length(counts: &[u64], i: usize) -> usize {
-    get64(counts, i) as usize
-}
-
 // E, the largest E of any pattern.
-pub(crate) fn end(c: SetCall, counts: &[u64]) -> usize {
-    let size = c.size;
+pub(crate) fn end(c: SetCall<'_>) -> usize {
     let n = c.n;
-    let mut most: usize = 0;
-    let mut i: usize = 0;
-    while i < size {
-        most = plus(most, minus(places(n, length(counts, i)), most));
-        i += 1;
-    }
-    most
+    c.counts
+        .iter()
+        .fold(0, |most, &m| places(n, m as usize).max(most))
 }
 
-// Refusals 3, 4 and 17 of a pattern of m bits whose bytes end before `end`.
-fn pattern_refusal(c: SetCall, m: usize, end: usize) -> usize {
-    if (m == 0) | (2048 < m) {
-        return 3;
-    }
-    if c.patterns < end {
-        return 4;
-    }
-    if c.fixed < end {
-        return 17;
-    }
-    0
-}
-
-// The first of these, the patterns taken in turn, or 0.
-fn patterns_refusal(c: SetCall, counts: &[u64]) -> usize {
-    let size = c.size;
+// Refusals 3, 4 and 17, the patterns taken in turn.
+fn check_patterns(c: SetCall<'_>) -> Result<(), Refused> {
     let mut end: usize = 0;
-    let mut i: usize = 0;
-    while i < size {
-        let m = length(counts, i);
-        end = plus(end, ceiling(m));
-        let why = pattern_refusal(c, m, end);
-        if 0 < why {
-            return why;
+    for &m in c.counts {
+        end = end.wrapping_add(ceiling(m as usize));
+        if m == 0 || 2048 < m {
+            return Err(Refused(3));
         }
-        i += 1;
+        if c.patterns < end {
+            return Err(Refused(4));
+        }
+        if c.fixed < end {
+            return Err(Refused(17));
+        }
     }
-    0
+    Ok(())
 }
 
-// The first refusal whose condition holds, or 0.
-fn refusal(c: SetCall, counts: &[u64]) -> usize {
+// The first refusal whose condition holds.
+fn check(c: SetCall<'_>) -> Result<(), Refused> {
     if 1073741824 < c.n {
-        return 1;
+        return Err(Refused(1));
     }
     if c.text < ceiling(c.n) {
-        return 2;
+        return Err(Refused(2));
     }
-    if (c.size == 0) | (64 < c.size) {
-        return 18;
+    if c.counts.is_empty() || 64 < c.counts.len() {
+        return Err(Refused(18));
     }
-    let why = patterns_refusal(c, counts);
-    if (why == 0) & (end(c, counts) < c.mark) {
-        return 6;
+    check_patterns(c)?;
+    if end(c) < c.mark {
+        return Err(Refused(6));
     }
-    why
+    Ok(())
 }
 
 // Whether the pattern of m bits from bit `start` of its run on stands at a place of n bits of text: it fits, and each of its
 // bits is wild or equals the text's.
 fn stands(s: &[u8], n: usize, start: usize, m: usize, at: usize) -> bool {
-    if n < plus(at, m) {
-        return false;
-    }
-    let p = plus(TEXT_BIT, at);
-    let w = plus(SET_BIT, start);
-    let f = plus(SET_FIXED_BIT, start);
-    let mut j: usize = 0;
-    while j < m {
-        if (bit(s, plus(f, j)) == 1) & (bit(s, plus(w, j)) != bit(s, plus(p, j))) {
-            return false;
-        }
-        j += 1;
-    }
-    true
+    let p = at.wrapping_add(TEXT_BIT);
+    let w = start.wrapping_add(SET_BIT);
+    let f = start.wrapping_add(SET_FIXED_BIT);
+    at.wrapping_add(m) <= n
+        && (0..m).all(|j| bit(s, f.wrapping_add(j)) == 0
+            || bit(s, w.wrapping_add(j)) == bit(s, p.wrapping_add(j)))
 }
 
 // Whether pair k of the list is this place and this number.
-pub(crate) fn paired(list: &[u32], k: usize, at: usize, i: usize) -> bool {
-    let cell = plus(k, k);
-    (get32(list, cell) == small(at)) & (get32(list, plus(cell, 1)) == small(i))
+pub(crate) fn paired(list: &[u32], k: usize, at: u32, i: u32) -> bool {
+    let cell = k.wrapping_mul(2);
+    get(list, cell) == at && get(list, cell.wrapping_add(1)) == i
 }
 
 // The patterns that stand at a place, in turn, and whether the list holds their pairs after `had` others.
-fn find(c: SetCall, s: &[u8], counts: &[u64], list: &[u32], had: usize, at: usize) -> Found {
-    let size = c.size;
-    let n = c.n;
+fn find(c: SetCall<'_>, s: &[u8], list: &[u32], had: usize, at: usize) -> Found {
     let mut count: usize = 0;
     let mut good = true;
     let mut start: usize = 0;
-    let mut i: usize = 0;
-    while i < size {
-        let m = length(counts, i);
-        let hit = stands(s, n, start, m, at);
-        good = good & (!hit | paired(list, plus(had, count), at, i));
-        count = plus(count, hit as usize);
-        start = plus(start, ceiling(m) % 65536 * 8);
-        i += 1;
+    for (i, &m) in c.counts.iter().enumerate() {
+        if stands(s, c.n, start, m as usize, at) {
+            let k = had.wrapping_add(count);
+            good = good && paired(list, k, u32::low(at), u32::low(i));
+            count = count.wrapping_add(1);
+        }
+        start = start.wrapping_add(ceiling(m as usize).wrapping_mul(8));
     }
-    Found {
-        count: count,
-        good: good,
-    }
+    Found { count, good }
 }
 
-// The next place, unless the call stopped before or the budget is spent. The pairs of a place are written if all of them fit;
-// else none is, and the step is not counted.
-fn moved(mut run: SetRun, c: SetCall, s: &[u8], counts: &[u64], list: &[u32], at: usize) -> SetRun {
-    if 0 < run.stop {
-        return run;
+// What a call is to come to, and whether the list holds what is to be written. The pairs of a place are written if all of
+// them fit; else none is, and the step is not counted.
+pub(crate) fn search(c: SetCall<'_>, s: &[u8], list: &[u32]) -> Judged {
+    if let Err(why) = check(c) {
+        return Judged {
+            good: true,
+            answer: Err(why),
+        };
     }
-    if run.steps == c.budget {
-        run.stop = 2;
-        return run;
-    }
-    let found = find(c, s, counts, list, run.pairs, at);
-    let pairs = plus(run.pairs, found.count);
-    if c.room < plus(pairs, pairs) {
-        run.stop = 1;
-        return run;
-    }
-    run.steps = plus(run.steps, 1);
-    run.pairs = pairs;
-    run.mark = plus(at, 1);
-    run.good = run.good & found.good;
-    run
-}
-
-// What a call is to come to, and whether the list holds what is to be written.
-pub(crate) fn search(c: SetCall, s: &[u8], counts: &[u64], list: &[u32]) -> SetRun {
-    let why = refusal(c, counts);
-    let mut run = SetRun {
-        refusal: why,
+    let mut good = true;
+    let mut run = Run {
         steps: 0,
-        pairs: 0,
+        hits: 0,
         mark: c.mark,
-        stop: 0,
-        good: true,
+        stop: Stop::Done,
     };
-    if 0 < why {
-        return run;
+    for at in c.mark..end(c) {
+        if run.steps == c.budget {
+            run.stop = Stop::Spent;
+            break;
+        }
+        let found = find(c, s, list, run.hits, at);
+        let hits = run.hits.wrapping_add(found.count);
+        if c.room < hits.wrapping_mul(2) {
+            run.stop = Stop::Full(at);
+            break;
+        }
+        run.steps = run.steps.wrapping_add(1);
+        run.hits = hits;
+        run.mark = at + 1;
+        good = good && found.good;
     }
-    let last = end(c, counts);
-    let mut at = c.mark;
-    while at < last {
-        run = moved(run, c, s, counts, list, at);
-        at += 1;
+    Judged {
+        good,
+        answer: Ok(run),
     }
-    run
 }
