@@ -25,6 +25,9 @@ from sources import CRATES, Unread
 
 STARTS = ["search::Mark::search", "capi::scan::mitongory_search"]
 
+# Their crates. Crates that these do not rest on, such as programs and tests, are not read.
+TOPS = [start.split("::")[0] for start in STARTS]
+
 METHOD, OURS = "rules::Method", "Plain"
 
 # It tells the method that a number names, and 0 alone is plain: it may name other methods, and must be asked so.
@@ -265,7 +268,7 @@ def named(program, full):
 
 def followed(crates):
     """The functions that are reached, each with how many calls deep it is, and what they may not have."""
-    program = Program(crates)
+    program = Program(crates, TOPS)
     depths, todo, faults = {}, [], []
 
     def reach(function, depth):
@@ -456,7 +459,7 @@ def samples(copy, functions, deep):
         yield planted(copy, deep, text), words, False
     for text in RIGHT:
         yield planted(copy, deep, text), None, False
-    yield planted(copy, named(Program(copy), ANOTHER), PLANT), None, False
+    yield planted(copy, named(Program(copy, TOPS), ANOTHER), PLANT), None, False
     for file, pairs, words in ELSEWHERE:
         path = os.path.join(copy, *file.split("/"))
         with open(path, encoding="utf-8") as source:

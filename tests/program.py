@@ -124,9 +124,9 @@ class Function(Item):
 
 
 class Program:
-    """All crates below a folder `crates`, and which of them each one sees."""
+    """The crates below a folder `crates` that some of them rest on, and these, and which of them each one sees."""
 
-    def __init__(self, crates):
+    def __init__(self, crates, tops):
         self.crates, self.roots, self.sees, self.types, self.impls = crates, {}, {}, [], []
         with open(os.path.join(os.path.dirname(os.path.abspath(crates)), "crates.txt"), encoding="utf-8") as lines:
             for line in lines:
@@ -135,7 +135,7 @@ class Program:
                 name = name.split()[0] if name.split() else name
                 if colon:
                     self.sees[name.strip()] = below.split()
-        for name in self.sees:
+        for name in [name for name in self.sees if any(name in self.below(top) for top in tops)]:
             root = next((f for f in ("lib.rt", "main.rt") if os.path.exists(os.path.join(crates, name, "src", f))), None)
             if not root:
                 raise Unread("crate %s has no root" % name)
@@ -151,7 +151,7 @@ class Program:
         seen, todo = [], [crate]
         while todo:
             name = todo.pop()
-            if name in self.roots and name not in seen:
+            if name in self.sees and name not in seen:
                 seen.append(name)
                 todo += self.sees[name]
         return seen

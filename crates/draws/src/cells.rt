@@ -16,6 +16,7 @@ pub fn get<T: Copy + Default>(s: &[T], i: usize) -> T
 pub fn put<T: Copy>(s: &mut [T], i: usize, v: T)
     ensures { s.new ≡ slice_set s.old i v }
 {
+    // with `get_mut` it stays open that the other cells are as they were
     if i < s.len() {
         s[i] = v;
     }

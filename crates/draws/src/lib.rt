@@ -5,6 +5,7 @@
 
 pub mod cells;
 pub mod draw;
+pub mod judged;
 pub mod number;
 pub mod packed;
 pub mod report;

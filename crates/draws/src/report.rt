@@ -1,6 +1,7 @@
 // The lines that a program of trials prints.
-ghost use Rattle.std.specs.Prelude.{◌≡◌, ◌≤◌, List, [], ◌∷◌, ◌++◌, OnOk, IfOk, decimal};
+ghost use Rattle.std.specs.Prelude.{◌≡◌, ℕ, ◌≤◌, List, [], ◌∷◌, ◌++◌, OnOk, IfOk, codes, decimal};
 ghost use Rattle.std.specs.Io.KnownBytes.{Appends};
+ghost use Rattle.draws.specs.Growing.{Grows, EndsWith};
 
 use crate::draw;
 use std::io;
@@ -23,7 +24,9 @@ pub struct Kind<C> {
 }
 
 // Prints a case that disagrees, by its kind's name and its number, so that it can be found again.
-fn disagreement<W: Write>(out: &mut W, kind: &[u8], case: usize) -> io::Result<()> {
+fn disagreement<W: Write>(out: &mut W, kind: &[u8], case: usize) -> io::Result<()>
+    ensures { OnOk result (Appends (W.contents out.old) (W.contents out.new) (codes "disagreement: " ++ (kind.now ++ (codes "case " ++ (decimal case ++ (10 ∷ [])))))) }
+{
     out.write_all(b"disagreement: ")?;
     out.write_all(kind)?;
     line(out, b"case ", case)
@@ -33,14 +36,15 @@ fn disagreement<W: Write>(out: &mut W, kind: &[u8], case: usize) -> io::Result<(
 const SEED: usize = 88172645463325252;
 
 // Prints the line of a kind, which has this number, and each of its cases that disagrees: the answer is how many these are.
-// `agrees` is told which kind it is, the case's number and a drawn one.
-pub fn many<W: Write, C: Copy, F: Fn(C, usize, usize) -> bool>(
+// `agrees` is told which cases they are, the number of one and a drawn number.
+fn many<W: Write, C: Copy, F: Fn(C, usize, usize) -> bool>(
     out: &mut W,
     kind: &Kind<C>,
     number: usize,
     agrees: F,
 ) -> io::Result<usize>
     requires { F.IsAlwaysCallable agrees }
+    ensures grows { OnOk result (Grows (W.contents out.old) (W.contents out.new)) }
     ensures few { IfOk result (λ wrong. wrong ≤ kind.now.count) }
     ensures quiet { IfOk result (λ wrong. wrong ≡ 0 → Appends (W.contents out.old) (W.contents out.new) (kind.now.name.now ++ (decimal kind.now.count ++ (10 ∷ [])))) }
 {
@@ -55,4 +59,21 @@ pub fn many<W: Write, C: Copy, F: Fn(C, usize, usize) -> bool>(
         }
     }
     Ok(wrong)
+}
+
+// Runs the cases of all kinds and prints how many disagree.
+pub fn all<W: Write, C: Copy, F: Fn(C, usize, usize) -> bool>(
+    out: &mut W,
+    kinds: &[Kind<C>],
+    agrees: F,
+) -> io::Result<()>
+    requires { F.IsAlwaysCallable agrees }
+    ensures { OnOk result ((wrong : ℕ) × EndsWith (W.contents out.old) (W.contents out.new) (codes "disagreements " ++ (decimal wrong ++ (10 ∷ [])))) }
+{
+    let mut wrong: usize = 0;
+    for (number, kind) in kinds.iter().enumerate() {
+        let more = many(out, kind, number, &agrees)?;
+        wrong = wrong.saturating_add(more);
+    }
+    line(out, b"disagreements ", wrong)
 }

@@ -1,22 +1,12 @@
 // A naive writer and reader of the position list file, from the words of documents 01 and 02.
 use draws::cells::{get, put};
+use draws::judged::Refused;
 use draws::number::Low;
 
 const LIMIT: usize = 1073741824;
 
 // Where the naive writer's file lies in a buffer; what the library writes lies at the front.
 pub(crate) const FILE: usize = 128;
-
-// A refusal, by its number in the documents' tables.
-#[derive(Clone, Copy, PartialEq, Eq)]
-pub(crate) struct Refused(pub u32);
-
-// What the library answered in a case, and whether that is right.
-#[derive(Clone, Copy)]
-pub(crate) struct Judged<T> {
-    pub good: bool,
-    pub answer: Result<T, Refused>,
-}
 
 // The groups of a number from `start` on, and the index after them.
 fn put_number(out: &mut [u8], start: usize, number: usize) -> usize {

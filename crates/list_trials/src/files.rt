@@ -1,9 +1,10 @@
 // The position list file: drawn lists there and back, and drawn and damaged bytes, against a naive writer and reader. A
 // buffer has the library's target at its front and the naive writer's file from FILE on.
 use crate::codec;
-use crate::codec::{FILE, Judged, Refused};
+use crate::codec::FILE;
 use draws::cells::{part, put, stay};
 use draws::draw::{choose, draw, drawn_byte};
+use draws::judged::{Judged, Refused};
 use draws::number::Low;
 use draws::{cells, packed};
 use positions::{ReadRefusal, WriteRefusal};

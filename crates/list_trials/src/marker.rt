@@ -1,6 +1,6 @@
 // A naive marker of sittings, from document 02's words: each position is looked for in the whole of the other list.
-use crate::codec::Refused;
 use draws::cells::part;
+use draws::judged::Refused;
 use draws::number::Low;
 
 const LIMIT: u32 = 1073741824;

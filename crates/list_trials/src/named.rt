@@ -1,10 +1,12 @@
 // Named cases: the course's papers of the position list file, and the examples of rows 8 to 14 of the table of refusals, in
 // document 01, and those of document 02, A6. Each is also compared with the naive side.
-use crate::codec::{FILE, Refused};
+use crate::codec::FILE;
 use crate::files;
 use crate::files::BYTES;
 use draws::cells::{listed, part};
+use draws::judged::Refused;
 use draws::number::Low;
+use draws::packed;
 use draws::packed::{agree, put_digits};
 
 // A list by its first position, how far apart the others are and their count; the bytes of the target, which are the cells
@@ -65,7 +67,7 @@ pub(crate) fn one(i: usize, x: usize) -> bool {
         return false;
     };
     let mut s = [0u8; BYTES];
-    draws::packed::fill(&mut s, x);
+    packed::fill(&mut s, x);
     let mut list = [0u32; 24];
     rise(&mut list, first, apart);
     let written = files::written(part(&list, 0, count), room, x, &mut s);

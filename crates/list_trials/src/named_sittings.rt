@@ -1,10 +1,10 @@
 // Named sittings: no sheets, one, and as many as are taken; keys and sheets that agree, or not at all; each refusal, and
 // each before the ones that come after it. Each is also compared with the naive marker.
-use crate::codec::Refused;
 use crate::marker::{Marks, Sitting};
 use crate::sittings;
 use crate::sittings::{add, put_picked};
 use draws::cells::{get, part, put};
+use draws::judged::Refused;
 use draws::number::Low;
 
 // How a sitting is spoiled.
@@ -19,6 +19,8 @@ enum Spoil {
     // Half of 2^64 is added to the first count and the last, so that the sum wraps.
     Wraps,
 }
+
+use Spoil::{Key, More, Sheet, Wraps};
 
 // The first of 16 positions that follow each other; which of them the key picks, by a bit for each; how many sheets there
 // are, and what the first and the last of them pick, the others being empty; how the sitting is spoiled; the cells of the
@@ -39,7 +41,7 @@ const SITTINGS: [Row; 35] = [
     // no sheets, and a key that rises or not
     Row(0, 0xf, 0, 0, 0, &[], 0, Ok((0, 0, 0))),
     Row(0, 0xf, 0, 0, 0, &[], 5, Ok((0, 0, 0))),
-    Row(0, 0xf, 0, 0, 0, &[Spoil::Key], 0, Err(8)),
+    Row(0, 0xf, 0, 0, 0, &[Key], 0, Err(8)),
     // one sheet
     Row(0, 0x0, 1, 0x0, 0, &[], 3, Ok((0, 0, 0))),
     Row(0, 0x0, 1, 0xffff, 0, &[], 3, Ok((0, 0, 16))),
@@ -61,41 +63,23 @@ const SITTINGS: [Row; 35] = [
     Row(1073741809, 0x1, 1, 0x8000, 0, &[], 3, Err(8)),
     // each refusal
     Row(0, 0xf, 0, 0xf, 0, &[], 0, Err(16)),
-    Row(0, 0xf, 1, 0xf, 0, &[Spoil::More], 3, Err(16)),
-    Row(0, 0xf, 2, 0xf, 0xf, &[Spoil::Wraps], 6, Err(16)),
-    Row(0, 0xf, 1, 0xf, 0, &[Spoil::Key], 3, Err(8)),
-    Row(0, 0xf, 1, 0xf, 0, &[Spoil::Sheet], 3, Err(8)),
+    Row(0, 0xf, 1, 0xf, 0, &[More], 3, Err(16)),
+    Row(0, 0xf, 2, 0xf, 0xf, &[Wraps], 6, Err(16)),
+    Row(0, 0xf, 1, 0xf, 0, &[Key], 3, Err(8)),
+    Row(0, 0xf, 1, 0xf, 0, &[Sheet], 3, Err(8)),
     Row(0, 0xf, 1, 0xf, 0, &[], 2, Err(9)),
     Row(0, 0xf, 255, 0xf, 0xf, &[], 764, Err(9)),
     Row(0, 0xf, 256, 0xf, 0xf, &[], 767, Err(9)),
     // each before those that come after it
-    Row(0, 0xf, 257, 0xf, 0xf, &[Spoil::More], 771, Err(15)),
-    Row(0, 0xf, 257, 0xf, 0xf, &[Spoil::Key], 771, Err(15)),
+    Row(0, 0xf, 257, 0xf, 0xf, &[More], 771, Err(15)),
+    Row(0, 0xf, 257, 0xf, 0xf, &[Key], 771, Err(15)),
     Row(0, 0xf, 257, 0xf, 0xf, &[], 770, Err(15)),
-    Row(0, 0xf, 2, 0xf, 0xf, &[Spoil::More, Spoil::Key], 6, Err(16)),
-    Row(
-        0,
-        0xf,
-        2,
-        0xf,
-        0xf,
-        &[Spoil::Wraps, Spoil::Sheet],
-        6,
-        Err(16),
-    ),
-    Row(0, 0xf, 2, 0xf, 0xf, &[Spoil::More], 5, Err(16)),
-    Row(0, 0xf, 2, 0xf, 0xf, &[Spoil::Key], 5, Err(8)),
-    Row(0, 0xf, 2, 0xf, 0xf, &[Spoil::Sheet], 5, Err(8)),
-    Row(
-        0,
-        0xf,
-        257,
-        0xf,
-        0xf,
-        &[Spoil::More, Spoil::Key, Spoil::Sheet],
-        0,
-        Err(15),
-    ),
+    Row(0, 0xf, 2, 0xf, 0xf, &[More, Key], 6, Err(16)),
+    Row(0, 0xf, 2, 0xf, 0xf, &[Wraps, Sheet], 6, Err(16)),
+    Row(0, 0xf, 2, 0xf, 0xf, &[More], 5, Err(16)),
+    Row(0, 0xf, 2, 0xf, 0xf, &[Key], 5, Err(8)),
+    Row(0, 0xf, 2, 0xf, 0xf, &[Sheet], 5, Err(8)),
+    Row(0, 0xf, 257, 0xf, 0xf, &[More, Key, Sheet], 0, Err(15)),
 ];
 
 pub(crate) const CASES: usize = SITTINGS.len();
@@ -133,16 +117,16 @@ pub(crate) fn one(i: usize, x: usize) -> bool {
         count.saturating_sub(1),
         end.saturating_sub(middle) as u64,
     );
-    if spoiled.contains(&Spoil::Key) {
+    if spoiled.contains(&Key) {
         repeat(&mut key);
     }
-    if spoiled.contains(&Spoil::Sheet) {
+    if spoiled.contains(&Sheet) {
         repeat(&mut sheets);
     }
-    if spoiled.contains(&Spoil::More) {
+    if spoiled.contains(&More) {
         add(&mut counts, 0, 1);
     }
-    if spoiled.contains(&Spoil::Wraps) {
+    if spoiled.contains(&Wraps) {
         add(&mut counts, 0, 1 << 63);
         add(&mut counts, count.saturating_sub(1), 1 << 63);
     }

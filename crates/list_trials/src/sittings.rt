@@ -1,10 +1,10 @@
 // Sittings: drawn keys and sheets against a naive marker. Key and sheets are picked from 16 rising positions, by a number
 // with a bit for each.
-use crate::codec::{Judged, Refused};
 use crate::marker::{Marks, Sitting};
 use crate::{files, marker};
 use draws::cells::{get, part, put, stay};
 use draws::draw::{choose, draw};
+use draws::judged::{Judged, Refused};
 use draws::number::Low;
 use draws::{cells, draw};
 use marking::{MarkRefusal, Totals};

@@ -1,9 +1,10 @@
 // One call of the search beside the naive one.
 use crate::naive;
-use crate::run::{Judged, Refused, Run, stopped};
+use crate::run::{Run, hits, stopped};
 use bits::Place;
 use draws::cells;
 use draws::cells::{part, stay};
+use draws::judged::{Judged, Refused};
 use draws::number::Low;
 use draws::packed::{FIXED, TEXT};
 use search::{Answer, Mark, Method, Refusal};
@@ -83,7 +84,7 @@ fn judge(
     s: &[u8],
     list: &[u32],
     scratch: &[u64],
-) -> Judged {
+) -> Judged<Run> {
     let want = naive::search(c, s, list);
     let used = match want.answer {
         Ok(_) => naive::figure(c.method, c.m),
@@ -91,7 +92,7 @@ fn judge(
     };
     let good = want.good
         && answer == want.answer
-        && stay(list, want.hits(), x)
+        && stay(list, hits(want), x)
         && stay(part(scratch, 0, GUARD), 0, x)
         && stay(scratch, used.wrapping_add(GUARD), x);
     Judged { good, ..want }
@@ -104,14 +105,14 @@ pub(crate) fn judged(
     s: &[u8],
     list: &mut [u32],
     scratch: &mut [u64; SCRATCH],
-) -> Judged {
+) -> Judged<Run> {
     cells::fill(list, 0, x);
     let answer = answered(made(c, s, list, scratch));
     judge(c, x, answer, s, list, scratch)
 }
 
 // A single call.
-pub(crate) fn single(c: Call, x: usize, s: &[u8], list: &mut [u32]) -> Judged {
+pub(crate) fn single(c: Call, x: usize, s: &[u8], list: &mut [u32]) -> Judged<Run> {
     let mut scratch = [0u64; SCRATCH];
     cells::fill(&mut scratch, 0, x);
     judged(c, x, s, list, &mut scratch)

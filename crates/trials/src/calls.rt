@@ -1,9 +1,10 @@
 // Lists of calls from mark to mark, refused ones too, and the one claim about the whole list (demand 3).
 use crate::call::{ALL, Call, GUARD, METHODS, SCRATCH, judged};
 use crate::naive;
-use crate::run::{Judged, Stop, Total};
+use crate::run::{Run, Stop, Total};
 use draws::cells;
 use draws::draw::{choose, draw};
+use draws::judged::Judged;
 use draws::number::ceiling;
 use search::Method;
 
@@ -16,7 +17,7 @@ const ROOMS: [(usize, usize); 4] = [(0, 1), (1, 1), (2050, 20), (0, 20)];
 // The method of a call on a pattern of m bits. One that does not take the pattern stays, and is refused, once in four draws;
 // else the call is a plain or a wide one.
 fn drawn_method(m: usize, x: usize, d: usize) -> Method {
-    let method = METHODS[draw(x, d, 5)];
+    let method = METHODS[draw(x, d, METHODS.len())];
     if naive::takes(method, m) || draw(x, d.wrapping_add(1), 4) == 0 {
         return method;
     }
@@ -66,7 +67,7 @@ fn next_call(c: Call, mark: usize, wild: bool, x: usize, left: usize) -> Call {
 
 // Whether a call makes no more steps than its budget, made them all where it said spent, and had some left where it said
 // full.
-fn within_budget(c: Call, call: Judged) -> bool {
+fn within_budget(c: Call, call: Judged<Run>) -> bool {
     match call.answer {
         Ok(run) => match run.stop {
             Stop::Done => run.steps <= c.budget,

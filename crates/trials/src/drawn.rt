@@ -191,7 +191,7 @@ pub(crate) const ROWS: usize = 48000;
 fn row(wild: bool, i: usize, x: usize, s: &mut [u8]) -> Call {
     let n = TEXT_BITS[i % 5];
     let m = PATTERN_BITS[i / 5 % 12];
-    let method = METHODS[i / 1200 % 5];
+    let method = METHODS[i / 1200 % METHODS.len()];
     second_run(wild, s, m, x);
     let bytes = if wild { draw(x, 22, 5) } else { 4 };
     let past = naive::places(n, m).wrapping_add(MARKS[i / 6000 % 4]);
@@ -226,7 +226,7 @@ pub(crate) fn refusals(
 pub(crate) const LENGTHS: usize = 20510;
 
 fn length(wild: bool, i: usize, x: usize, s: &mut [u8]) -> Call {
-    let method = METHODS[i % 5];
+    let method = METHODS[i % METHODS.len()];
     let m = i / 10 % 2051;
     let less = i / 5 % 2;
     let (longer, fewer_bytes, fewer_cells) = if wild { (30, less, 0) } else { (150, 0, less) };
@@ -261,7 +261,7 @@ pub(crate) fn every_length(
 // The whole search of a pattern with wild bits, and again after every bit of both runs that does not matter has become
 // the other one.
 pub(crate) fn free_bits(i: usize, x: usize, s: &mut [u8; BYTES], list: &mut [u32; CELLS]) -> bool {
-    let c = drawn_call(METHODS[i % 5], &TEXTS, true, x, s);
+    let c = drawn_call(METHODS[i % METHODS.len()], &TEXTS, true, x, s);
     let call = single(c, x, s, list);
     change_free(s, c.m, TEXT_BIT, usize::MAX);
     let again = single(c, x, s, list);

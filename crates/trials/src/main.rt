@@ -189,11 +189,5 @@ const KINDS: [Kind<Cases>; 26] = [
 ];
 
 fn main(rt: HostRuntime) -> io::Result<()> {
-    let mut out = io::writer(&rt);
-    let mut wrong: usize = 0;
-    for (number, kind) in KINDS.iter().enumerate() {
-        let more = report::many(&mut out, kind, number, agrees)?;
-        wrong = wrong.saturating_add(more);
-    }
-    report::line(&mut out, b"disagreements ", wrong)
+    report::all(&mut io::writer(&rt), &KINDS, agrees)
 }

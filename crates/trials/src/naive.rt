@@ -1,8 +1,9 @@
 // A naive search, bit by bit, and the table of refusals: the written rules of documents 01 and 02. The pattern lies at
 // the front of a buffer, the text from TEXT on, and the pattern's second run from FIXED on.
 use crate::call::Call;
-use crate::run::{Judged, Refused, Run, Stop};
+use crate::run::{Run, Stop};
 use draws::cells::get;
+use draws::judged::{Judged, Refused};
 use draws::number::{Low, ceiling};
 use draws::packed::{FIXED_BIT, TEXT_BIT, bit};
 use search::Method;
@@ -160,7 +161,7 @@ fn next_mark(c: Call, s: &[u8], at: usize) -> usize {
 
 // What a call is to come to, and whether the list holds what is to be written: every occurrence from the mark on to the
 // new mark, by the definition. A step begins where the last one ends. One that a full list cuts is not counted.
-pub(crate) fn search(c: Call, s: &[u8], list: &[u32]) -> Judged {
+pub(crate) fn search(c: Call, s: &[u8], list: &[u32]) -> Judged<Run> {
     if let Err(why) = check(c) {
         return Judged {
             good: true,

@@ -1,9 +1,10 @@
 // A naive search for a set, bit by bit, and its refusals: document 02's words on a set. The patterns lie one after the other
 // from SET on, each beginning on the byte after the one before, and their second runs alike from SET_FIXED on.
 use crate::naive::places;
-use crate::run::{Judged, Refused, Run, Stop};
+use crate::run::{Run, Stop};
 use crate::set_call::{SET_BIT, SET_FIXED_BIT, SetCall};
 use draws::cells::get;
+use draws::judged::{Judged, Refused};
 use draws::number::{Low, ceiling};
 use draws::packed::{TEXT_BIT, bit};
 
@@ -93,7 +94,7 @@ fn find(c: SetCall<'_>, s: &[u8], list: &[u32], had: usize, at: usize) -> Found 
 
 // What a call is to come to, and whether the list holds what is to be written. The pairs of a place are written if all of
 // them fit; else none is, and the step is not counted.
-pub(crate) fn search(c: SetCall<'_>, s: &[u8], list: &[u32]) -> Judged {
+pub(crate) fn search(c: SetCall<'_>, s: &[u8], list: &[u32]) -> Judged<Run> {
     if let Err(why) = check(c) {
         return Judged {
             good: true,

@@ -4,9 +4,10 @@
 use crate::call::{ALL, Call};
 use crate::calls::joined;
 use crate::drawn::CELLS;
-use crate::run::{Refused, Run, Stop};
+use crate::run::{Run, Stop};
 use crate::{call, naive, single};
 use draws::cells::part;
+use draws::judged::Refused;
 use draws::packed::{BYTES, FIXED, TEXT, TEXT_BIT, put_digits};
 use search::Method;
 

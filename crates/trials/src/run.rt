@@ -1,7 +1,5 @@
 // What a call comes to, for one pattern and for a set.
-// A refusal, by its number in the documents' tables.
-#[derive(Clone, Copy, PartialEq, Eq)]
-pub(crate) struct Refused(pub u32);
+use draws::judged::Judged;
 
 // How a call stopped. A full list names the place that found no cell.
 #[derive(Clone, Copy, PartialEq, Eq)]
@@ -20,21 +18,9 @@ pub(crate) struct Run {
     pub stop: Stop,
 }
 
-// What a call is to come to, and whether it did.
-#[derive(Clone, Copy)]
-pub(crate) struct Judged {
-    pub good: bool,
-    pub answer: Result<Run, Refused>,
-}
-
-impl Judged {
-    // The occurrences written, or the pairs.
-    pub(crate) fn hits(self) -> usize {
-        match self.answer {
-            Ok(run) => run.hits,
-            Err(_) => 0,
-        }
-    }
+// The occurrences that a call writes, or the pairs.
+pub(crate) fn hits(call: Judged<Run>) -> usize {
+    call.answer.map_or(0, |run| run.hits)
 }
 
 // The search's way to say how a call stopped.
@@ -70,7 +56,7 @@ impl Total {
     }
 
     // A call more. One that is refused changes nothing.
-    pub(crate) fn with(self, call: Judged) -> Total {
+    pub(crate) fn with(self, call: Judged<Run>) -> Total {
         let good = self.good && call.good;
         match call.answer {
             Ok(run) => Total {
@@ -86,7 +72,7 @@ impl Total {
 
     // Whether the whole list is as one naive call from the first mark on, with as many steps as the last mark; the last
     // accepted call said done just if the search was over.
-    pub(crate) fn is_as(self, all: Judged, over: bool) -> bool {
+    pub(crate) fn is_as(self, all: Judged<Run>, over: bool) -> bool {
         let said = match self.stop {
             Some(stop) => (stop == Stop::Done) == over,
             None => true,

@@ -1,9 +1,10 @@
 // One call for a set beside the naive one.
 use crate::naive_set;
-use crate::run::{Judged, Refused, Run, stopped};
+use crate::run::{Run, hits, stopped};
 use bits::Place;
 use draws::cells;
 use draws::cells::{part, stay};
+use draws::judged::{Judged, Refused};
 use draws::number::Low;
 use draws::packed::TEXT;
 use search::Mark;
@@ -73,10 +74,10 @@ fn made(c: SetCall<'_>, s: &[u8], list: &mut [u32]) -> Result<Answer, Refusal> {
 
 // The call of both, on a list of known content, and whether the library's did what it is to do. Cells of the list that are
 // not written stay; a pair takes two.
-pub(crate) fn judged(c: SetCall<'_>, x: usize, s: &[u8], list: &mut [u32]) -> Judged {
+pub(crate) fn judged(c: SetCall<'_>, x: usize, s: &[u8], list: &mut [u32]) -> Judged<Run> {
     cells::fill(list, 0, x);
     let answer = answered(made(c, s, list));
     let want = naive_set::search(c, s, list);
-    let good = want.good && answer == want.answer && stay(list, want.hits().wrapping_mul(2), x);
+    let good = want.good && answer == want.answer && stay(list, hits(want).wrapping_mul(2), x);
     Judged { good, ..want }
 }

@@ -6,10 +6,11 @@ use crate::drawn::{draw_pattern, draw_runs, draw_text};
 use crate::naive::figure;
 use crate::naive_set;
 use crate::naive_set::paired;
-use crate::run::{Judged, Total};
+use crate::run::{Run, Total, hits};
 use crate::set_call::{CELLS, COUNTS, SET_BIT, SET_BYTES, SET_FIXED_BIT, SetCall, judged};
 use draws::cells::{get, put};
 use draws::draw::{choose, draw};
+use draws::judged::Judged;
 use draws::number::ceiling;
 use draws::packed;
 use draws::packed::{BYTES, FIXED_BIT};
@@ -231,7 +232,7 @@ fn drawn_room(c: SetCall<'_>, x: usize, s: &[u8], list: &[u32]) -> usize {
     if 0 < draw(x, 55, 4) {
         return choose(&ROOMS, draw(x, 59, 10), x, 62);
     }
-    let pairs = naive_set::search(c, s, list).hits();
+    let pairs = hits(naive_set::search(c, s, list));
     let near = pairs.wrapping_mul(2).wrapping_add(draw(x, 62, 3));
     near.saturating_sub(1).min(CELLS)
 }
@@ -282,7 +283,7 @@ fn joined(first: SetCall<'_>, x: usize, s: &[u8], list: &mut [u32]) -> bool {
 
 // A set of one pattern, which still lies at the front too, comes to what the plain method comes to on half as many cells,
 // rounded down; and the pairs are the places of its list, each with number 0.
-fn as_plain(c: SetCall<'_>, call: Judged, x: usize, s: &[u8], list: &[u32]) -> bool {
+fn as_plain(c: SetCall<'_>, call: Judged<Run>, x: usize, s: &[u8], list: &[u32]) -> bool {
     let m = get(c.counts, 0) as usize;
     let mut other = [0u32; CELLS];
     let plain = single(
@@ -304,7 +305,7 @@ fn as_plain(c: SetCall<'_>, call: Judged, x: usize, s: &[u8], list: &[u32]) -> b
     );
     plain.good
         && call.answer == plain.answer
-        && (0..call.hits()).all(|i| paired(list, i, get(&other, i), 0))
+        && (0..hits(call)).all(|i| paired(list, i, get(&other, i), 0))
 }
 
 // A case over its buffers.

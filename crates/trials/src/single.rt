@@ -3,11 +3,11 @@
 use crate::call::{Call, SCRATCH};
 use crate::drawn::{pattern_length, repeat};
 use crate::naive;
-use crate::run::Refused;
 use crate::wild::second_run;
 use bits::Place;
 use draws::cells::{get, part, put};
 use draws::draw::{choose, draw};
+use draws::judged::Refused;
 use draws::number::{Low, ceiling};
 use draws::packed;
 use draws::packed::{BYTES, FIXED, TEXT, TEXT_BIT};
