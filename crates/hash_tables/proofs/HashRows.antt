@@ -1,16 +1,18 @@
 -- The table in rows of 16 cells: how the moves of a row are entered, then those of all rows, until each cell has its own.
 -- Assumes nothing.
-use Prim.Native.Nat.{ℕ, ◌+◌, ◌*◌, ◌/◌, ◌%◌, ◌^◌, ◌≤◌, ◌<◌}
+use Prim.Native.Nat.{ℕ, ◌+◌, ◌-◌, ◌*◌, ◌/◌, ◌%◌, ◌^◌, ◌≤◌, ◌<◌}
 use mathlib.Core.Path.{◌≡◌, refl, sym, ap, ◌∙◌}
 use mathlib.Core.Logic.{◌⊎◌, inl, inr}
 use mathlib.Core.Bool.{true≢false}
-use mathlib.Core.List.{List}
+use mathlib.Core.List.{List, ◌++◌}
 use native.Mathlib.Decide.{dec_le, ℕ_discrete}
 use native.Mathlib.Omega.{arith}
 use lib.Bits.{bit_and, bit_or, bit_xor, and_le_l, and_le_r, or_add_and}
 use lib.Count.{count_trailing_zeros}
-use lib.ListN.{length, get_or, set, length-set}
-use lib.Seq.{get_or-set_same, get_or-set_other}
+use lib.ListN.{length, get_or, set, take, drop, replicate, length-set, length-drop, length-replicate, get_or-append, get_or-replicate}
+use lib.Seq.{get_or-set_same, get_or-set_other, get_or-take, get_or-drop, get_or-append-add, length-take-le}
+use borrow.Rule.Slice.PartMut.{put_mid, post_of, same_len_mid}
+use Rattle.std.proofs.lemmas.Slice.{drop-put_mid}
 use Rattle.bits.specs.Packed.{weight}
 use Rattle.bits.proofs.Weight.{weight_lt, bit_or_bit, weight_zero, weight_ones}
 use Rattle.rules.specs.declared.Method.TheVariants.{Hash}
@@ -24,6 +26,39 @@ use Rattle.rules.proofs.Hash.{meets_all}
 use Rattle.matcher.proofs.SingleBits.{turn_off, turn_other}
 use Rattle.matcher.proofs.LinedCells.{only_rest, words_same}
 use Rattle.hash_tables.proofs.HashWords.{moves_none, moves_some}
+
+-- Cells filled with one value
+
+module _ (cells : List ℕ) (from k v : ℕ) (room : from + k ≤ length cells) where
+  abbrev filled : List ℕ
+  filled = put_mid from k cells (replicate k v)
+
+  front : length (take from cells) ≡ from
+  front = length-take-le from cells (omega arith)
+
+  size : length (replicate k v) ≡ k
+  size = length-replicate k v
+
+  pub filled_at : (i : ℕ) → i < k → get_or (put_mid from k cells (replicate k v)) (from + i) 0 ≡ v
+  filled_at i l =
+      ap (λ (n : ℕ). get_or filled (n + i) 0) (sym front)
+      ∙ get_or-append-add (take from cells) (replicate k v ++ post_of from k cells) i 0
+      ∙ get_or-append (replicate k v) (post_of from k cells) 0 i (omega (arith, size))
+      ∙ get_or-replicate k i v 0 l
+
+  pub filled_only : Only from (from + k) cells (put_mid from k cells (replicate k v))
+  filled_only =
+      record {
+        size = same_len_mid from k cells (replicate k v) (size ∙ sym (length-take-le k (drop from cells) (omega (arith, length-drop from cells))));
+        low = λ i l. get_or-append (take from cells) (replicate k v ++ post_of from k cells) 0 i (omega (arith, front)) ∙ get_or-take from cells i 0 l;
+        high = λ i l.
+            let there : from + k + (i - (from + k)) ≡ i = omega arith in
+            let after : get_or filled (from + k + (i - (from + k))) 0 ≡ get_or cells (from + k + (i - (from + k))) 0
+            = sym (get_or-drop (from + k) filled (i - (from + k)) 0)
+            ∙ ap (λ (r : List ℕ). get_or r (i - (from + k)) 0) (drop-put_mid from k cells (replicate k v) (from + k) (omega arith) (omega arith) size)
+            ∙ get_or-drop (from + k) cells (i - (from + k)) 0 in
+            rw there at after;
+      }
 
 -- A row
 

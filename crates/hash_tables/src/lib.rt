@@ -25,11 +25,7 @@ fn double(cells: &mut [u64], size: usize)
     requires { (size ≤ 128) × (256 ≤ length cells.old) }
     ensures { cells.new ≡ paste cells.old size cells.old size }
 {
-    let mut i = 0usize;
-    while i < size {
-        cells[size + i] = cells[i];
-        i += 1;
-    }
+    cells.copy_within(..size, size);
 }
 
 // The moves from m − 7 up, at which the pattern's first bits are the value's last. Before turn k the first 2^(k − 1) cells
@@ -43,12 +39,10 @@ fn prepare_ends(pattern: &Pattern, cells: &mut [u64])
     let first = load::byte_at(pattern.bytes, Place(0));
     cells[0] = pattern.m as u64;
     let mut size = 1usize;
-    let mut k = 1u32;
-    while k < 8 {
+    for k in 1..8u32 {
         double(cells, size);
         cells[(first >> (8 - k)) as usize] = (pattern.m - k) as u64;
         size *= 2;
-        k += 1;
     }
     double(cells, size);
 }
@@ -61,11 +55,9 @@ fn enter(pattern: &Pattern, d: u32, k: u32, cells: &mut [u64])
     ensures { Entered (lent pattern.now) cells.old cells.new (d - k) }
 {
     let mut x = load::word_at(pattern.bytes, Place(pattern.m - 8 - d));
-    let mut r = 0u32;
-    while r < k {
+    for r in 0..k {
         cells[(x >> 56) as usize] = (d - r) as u64;
-        x = x << 1;
-        r += 1;
+        x <<= 1;
     }
 }
 
@@ -114,14 +106,12 @@ fn unite(cells: &mut [u64], g: usize)
     let b = cells[FOUR + 4 * g + 1];
     let c = cells[FOUR + 4 * g + 2];
     let d = cells[FOUR + 4 * g + 3];
-    let mut set = 0usize;
-    while set < 16 {
+    for set in 0..16usize {
         let s = set as u64;
         cells[UNIONS + 16 * g + set] = if_in(a, s, 0)
             | if_in(b, s, 1)
             | if_in(c, s, 2)
             | if_in(d, s, 3);
-        set += 1;
     }
 }
 
@@ -131,10 +121,8 @@ fn line_up(pattern: &Pattern, d: u32, cells: &mut [u64])
     ensures { LinedUp (lent pattern.now) d cells.old cells.new }
 {
     wild::line_up(pattern, d + 1, cells, WORDS);
-    let mut g = 0usize;
-    while g < 4 {
+    for g in 0..4usize {
         unite(cells, g);
-        g += 1;
     }
 }
 
@@ -146,14 +134,12 @@ fn settle_four(cells: &mut [u64], high: usize, g: usize, later: u64, unset: u64,
     ensures { FourMade d high g unset cells.old result cells.new }
 {
     let mut kept = unset;
-    let mut low = 4 * g;
-    while low < 4 * g + 4 {
+    for low in 4 * g..4 * g + 4 {
         let moves = if_in(cells[FOUR + low], kept, low) & later;
         if moves != 0 {
-            cells[16 * high + low] = (d + 1 + u64::trailing_zeros(moves)) as u64;
-            kept = kept ^ (1 << low);
+            cells[16 * high + low] = (d + 1 + moves.trailing_zeros()) as u64;
+            kept ^= 1 << low;
         }
-        low += 1;
     }
     kept
 }
@@ -166,13 +152,11 @@ fn settle_row(cells: &mut [u64], high: usize, unset: u64, d: u32) -> u64
 {
     let later = cells[FOUR + high] >> 4;
     let mut kept = unset;
-    let mut g = 0usize;
-    while g < 4 {
+    for g in 0..4usize {
         let set = ((kept >> (4 * g)) & 15) as usize;
         if cells[UNIONS + 16 * g + set] & later != 0 {
             kept = settle_four(cells, high, g, later, kept, d);
         }
-        g += 1;
     }
     kept
 }
@@ -184,13 +168,11 @@ fn settle(cells: &mut [u64], d: u32) -> u64
     ensures { RowsMade d cells.old result cells.new }
 {
     let mut unset = 0u64;
-    let mut high = 0usize;
-    while high < 16 {
+    for high in 0..16usize {
         let before = cells[UNSET + high];
         let kept = settle_row(cells, high, before, d);
         cells[UNSET + high] = kept;
-        unset = unset | kept;
-        high += 1;
+        unset |= kept;
     }
     unset
 }
@@ -200,11 +182,7 @@ fn unset_all(cells: &mut [u64])
     requires { 512 ≤ length cells.old }
     ensures { AllUnset cells.old cells.new }
 {
-    let mut high = 0usize;
-    while high < 16 {
-        cells[UNSET + high] = 65535;
-        high += 1;
-    }
+    cells[UNSET..UNSET + 16].fill(65535);
 }
 
 // All moves of any pattern, the least first, until each value has one.

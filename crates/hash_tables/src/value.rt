@@ -16,12 +16,10 @@ fn hash_by_first_bits(pattern: &Pattern, value: u8) -> u32
 {
     let first = load::byte_at(pattern.bytes, Place(0)) as u32;
     let care = load::byte_at(pattern.fixed, Place(0)) as u32;
-    let mut k = 7u32;
-    while 0 < k {
+    for k in (1..8u32).rev() {
         if ((value as u32 % (1 << k)) ^ (first >> (8 - k))) & (care >> (8 - k)) == 0 {
             return pattern.m - k;
         }
-        k -= 1;
     }
     pattern.m
 }
@@ -31,13 +29,11 @@ pub fn hash_of(pattern: &Pattern, value: u8) -> u32
     requires { GoodPattern Method.Hash (lent pattern.now) }
     ensures { result ≡ hash_of (lent pattern.now) value }
 {
-    let mut d = 0u32;
-    while d + 8 <= pattern.m {
+    for d in 0..pattern.m - 7 {
         let p = Place(pattern.m - 8 - d);
         if (value ^ load::byte_at(pattern.bytes, p)) & load::byte_at(pattern.fixed, p) == 0 {
             return d;
         }
-        d += 1;
     }
     hash_by_first_bits(pattern, value)
 }

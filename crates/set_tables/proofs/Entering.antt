@@ -45,9 +45,6 @@ pub record HalfTo (at value care flag x : ℕ) (before cells : List ℕ) : Type 
   pub only : Only at (at + 16) before cells
 
 module _ (at value care flag : ℕ) (before : List ℕ) where
-  pub half_none : HalfTo at value care flag 0 before before
-  half_none = record { done = λ y l. absurd (omega arith); rest = λ y l. refl; only = only_none }
-
   module _ (x : ℕ) (cells : List ℕ) (so_far : HalfTo at value care flag x before cells) where
     pub half_keep : same_where (x * 2 ^ 60 % 2 ^ 64) value care 4 ≡ false → HalfTo at value care flag (x + 1) before cells
     half_keep e = record { done = λ y l. go y (eq_or_below (omega arith)); rest = λ y l. so_far.rest y (omega arith); only = so_far.only }
@@ -73,9 +70,6 @@ module _ (at value care flag : ℕ) (before : List ℕ) where
             rw (q, e)
             (get_or-set_same cells (at + x) new 0 (omega (arith, so_far.only.size)) ∙ ap (λ (z : ℕ). bit_or z flag) (so_far.rest x (omega arith)))
         go y (inr q) = get_or-set_other cells (at + x) (at + y) new 0 (λ e. absurd (omega arith)) ∙ so_far.done y q
-
-  pub half_all : (x : ℕ) (cells : List ℕ) → 16 ≤ x → HalfTo at value care flag x before cells → HalfEntered at value care flag before cells
-  half_all x cells h so_far = record { entered = λ y l. so_far.done y (omega arith); only = so_far.only }
 
 -- Four fixed bits: the value of the word's own first four bits alone agrees
 
@@ -136,32 +130,6 @@ pub record EnteredTo (value care flag g : ℕ) (before cells : List ℕ) : Type 
       ≡ with_flag (value * 2 ^ (4 * k) % 2 ^ 64) (care * 2 ^ (4 * k) % 2 ^ 64) flag x (get_or before (16 * k + x) 0)
   pub rest : (i : ℕ) → 16 * g ≤ i → get_or cells i 0 ≡ get_or before i 0
   pub size : length cells ≡ length before
-
-module _ (value care flag : ℕ) (before : List ℕ) where
-  pub entered_none : EnteredTo value care flag 0 before before
-  entered_none = record { done = λ k x l h. absurd (omega arith); rest = λ i l. refl; size = refl }
-
-  pub entered_more : (g : ℕ) (cells cells' : List ℕ) → EnteredTo value care flag g before cells
-      → HalfEntered (16 * g) (value * 2 ^ (4 * g) % 2 ^ 64) (care * 2 ^ (4 * g) % 2 ^ 64) flag cells cells'
-      → EnteredTo value care flag (g + 1) before cells'
-  entered_more g cells cells' so_far half =
-      record {
-        done = λ k x l h. go k x h (eq_or_below (omega arith));
-        rest = λ i l. half.only.high i (omega arith) ∙ so_far.rest i (omega arith);
-        size = half.only.size ∙ so_far.size;
-      }
-    where
-      go : (k x : ℕ) → x < 16 → (k ≡ g) ⊎ (k < g)
-          → get_or cells' (16 * k + x) 0
-          ≡ with_flag (value * 2 ^ (4 * k) % 2 ^ 64) (care * 2 ^ (4 * k) % 2 ^ 64) flag x (get_or before (16 * k + x) 0)
-      go k x h (inl q) =
-          rw q
-          (half.entered x h
-          ∙ ap (with_flag (value * 2 ^ (4 * g) % 2 ^ 64) (care * 2 ^ (4 * g) % 2 ^ 64) flag x) (so_far.rest (16 * g + x) (omega arith)))
-      go k x h (inr q) = half.only.low (16 * k + x) (omega arith) ∙ so_far.done k x q h
-
-  pub entered_all : (g : ℕ) (cells : List ℕ) → 8 ≤ g → EnteredTo value care flag g before cells → Entered value care flag before cells
-  entered_all g cells h so_far = record { entered = λ k x l u. so_far.done k x (omega arith) u; size = so_far.size }
 
 -- Four bits of a pattern
 
@@ -401,38 +369,12 @@ module _ (ws : PatternSet) (rows_before halves_before : List ℕ) where
           halves_size = new.size ∙ so_far.halves_size;
         }
 
--- when all have had their turn
-pub entering_all : {i start : ℕ} {rows_before rows halves_before halves : List ℕ} (ws : PatternSet) → EnteringAll ws i start rows_before rows halves_before halves
-    → length ws.counts ≤ i → Kept ws (length ws.counts) rows × Halves ws (length ws.counts) halves
-entering_all {i} ws so_far h =
-    let whole : i ≡ length ws.counts = omega arith in
-    (rw whole at so_far.kept, rw whole at so_far.halves_are)
-
 -- The words of eight bits
 
 -- the cells of one row below x are made
 pub record RowTo (from at first x : ℕ) (halves before cells : List ℕ) : Type 0 where
   pub done : (y : ℕ) → y < x → get_or cells (at + y) 0 ≡ bit_and first (get_or halves (from + y) 0)
   pub only : Only at (at + 16) before cells
-
-module _ (from at first : ℕ) (halves before : List ℕ) where
-  pub row_none : RowTo from at first 0 halves before before
-  row_none = record { done = λ y l. absurd (omega arith); only = only_none }
-
-  pub row_more : (x : ℕ) (cells : List ℕ) → RowTo from at first x halves before cells → x < 16 → at + 16 ≤ length before
-      → RowTo from at first (x + 1) halves before (set cells (at + x) (bit_and first (get_or halves (from + x) 0)))
-  row_more x cells so_far few room =
-      record { done = λ y l. go y (eq_or_below (omega arith)); only = only_set (at + x) new so_far.only (omega arith) (omega arith) }
-    where
-      new : ℕ
-      new = bit_and first (get_or halves (from + x) 0)
-
-      go : (y : ℕ) → (y ≡ x) ⊎ (y < x) → get_or (set cells (at + x) new) (at + y) 0 ≡ bit_and first (get_or halves (from + y) 0)
-      go y (inl q) = rw q (get_or-set_same cells (at + x) new 0 (omega (arith, so_far.only.size)))
-      go y (inr q) = get_or-set_other cells (at + x) (at + y) new 0 (λ e. absurd (omega arith)) ∙ so_far.done y q
-
-  pub row_all : (x : ℕ) (cells : List ℕ) → 16 ≤ x → RowTo from at first x halves before cells → RowPaired from at first halves before cells
-  row_all x cells h so_far = record { paired = λ y l. so_far.done y (omega arith); only = so_far.only }
 
 -- the rows below z are made
 abbrev pub RowsTo : List ℕ → List ℕ → ℕ → Type 0

@@ -4,20 +4,24 @@
 use Prim.Native.Nat.{ℕ, zero, suc, ◌+◌, ◌-◌, ◌*◌, ◌/◌, ◌%◌, ◌^◌, ◌≤◌, ◌<◌}
 use mathlib.Core.Path.{◌≡◌, refl, sym, ap, ap₂, ◌∙◌}
 use mathlib.Core.Logic.{◌⊎◌, inl, inr}
+use mathlib.Core.Bool.{Bool, true, false, not}
 use mathlib.Core.List.{List}
 use native.Mathlib.Nat.{div-one, pow-suc, zero-add}
 use native.Mathlib.Omega.{arith}
 use lib.Bits.{bit_and, bit_or, or_add_and, and_le_l, and_le_r}
+use lib.Dec.{eqb}
 use lib.ListN.{length, get_or, set, length-set}
 use lib.Pow.{pow_mono, shr-shr, shr_mod, field, mod-mod-pow}
 use lib.Seq.{get_or-set_same, get_or-set_other}
+use borrow.Author.Tests.{eqb-true}
+use mir.Val.{bool_byte}
 use Rattle.bits.specs.Packed.{weight, bits_at}
 use Rattle.bits.proofs.Weight.{weight_shr, weight_mod, shl_high, same_weights}
 use Rattle.bits.proofs.Run.{bits_lt, bits_first, bits_last}
 use Rattle.rules.proofs.Ranges.{eq_or_below}
 use Rattle.set_rules.specs.PatternSet.{PatternSet}
 use Rattle.set_tables.specs.Fronts.{begins, Flags, Tables, front}
-use Rattle.set_tables.specs.Parts.{FourFound, Looked, Marked}
+use Rattle.set_tables.specs.Parts.{FourFound, Looked}
 use Rattle.set_tables.proofs.Entering.{front_flags}
 
 -- The bits of a place
@@ -185,9 +189,6 @@ pub record LookedTo (tables : List ℕ) (word : ℕ) (before found : List ℕ) (
   pub none : any ≡ 0 → (e : ℕ) → e < 32 → e % 8 < i → get_or found e 0 ≡ 0
 
 module _ (tables : List ℕ) (word : ℕ) (before : List ℕ) where
-  pub looked_none : (any : ℕ) → LookedTo tables word before before any 0
-  looked_none any = record { are = λ e l h. absurd (omega arith); size = refl; none = λ z e l h. absurd (omega arith) }
-
   pub looked_more : (i : ℕ) (found found' : List ℕ) (any more : ℕ) → i < 8 → LookedTo tables word before found any i
       → FourFound tables (word * 2 ^ i % 2 ^ 64) i found found' more → LookedTo tables word before found' (bit_or any more) (i + 1)
   looked_more i found found' any more few so_far new =
@@ -213,14 +214,6 @@ module _ (tables : List ℕ) (word : ℕ) (before : List ℕ) where
           ap (λ (n : ℕ). get_or found' n 0) is ∙ new.none (both_zero any more z).1 (e / 8) (omega arith)
       nothing z e l (inr q) = new.others e (λ n. absurd (omega arith)) ∙ so_far.none (both_zero any more z).0 e l q
 
-  pub looked_all : (i : ℕ) (found : List ℕ) (any : ℕ) → 8 ≤ i → LookedTo tables word before found any i → Looked tables word before found any
-  looked_all i found any whole all =
-      record {
-        are = λ e l. all.are e l (omega arith);
-        size = all.size;
-        none = λ z e l. all.none z e l (omega arith);
-      }
-
 -- what the flags then say of the patterns
 pub looked_flags : (ws : PatternSet) (tables text found before : List ℕ) (base any : ℕ) → Tables ws tables
     → Looked tables (bits_at text base 64) before found any → (e : ℕ) → e < 32
@@ -240,8 +233,13 @@ pub record MarkedFrom (found : List ℕ) (e m : ℕ) : Type 0 where
 pub marked_small : {found : List ℕ} {e m : ℕ} → MarkedFrom found e m → m < 2 ^ 32
 marked_small {found} {e} {m} s = omega (arith, s.small, pow_mono {i = 32 - e} {j = 32} (omega arith))
 
-pub marked_none : (found : List ℕ) → MarkedFrom found 32 0
-marked_none found = record { inside = omega arith; small = omega arith; unset = λ n l h. absurd (omega arith) }
+-- a bit that says whether a flag stands
+pub some_flag : (flags : ℕ) → (bool_byte (not (eqb flags 0)) < 2) × (bool_byte (not (eqb flags 0)) ≡ 0 → flags ≡ 0)
+some_flag flags = go (eqb flags 0) (eqb-true flags 0)
+  where
+    go : (b : Bool) → (b ≡ true → flags ≡ 0) → (bool_byte (not b) < 2) × (bool_byte (not b) ≡ 0 → flags ≡ 0)
+    go true none = (omega arith, λ z. none refl)
+    go false none = (omega arith, λ z. absurd (omega arith))
 
 pub marked_more : (found : List ℕ) (e m r : ℕ) → 0 < e → r < 2 → (r ≡ 0 → get_or found (e - 1) 0 ≡ 0) → MarkedFrom found e m
     → MarkedFrom found (e - 1) (2 * m + r)
@@ -263,11 +261,3 @@ marked_more found e m r some bit tells so_far =
         let half : m ≡ (2 * m + r) / 2 ^ 1 = omega arith in
         so_far.unset n (omega arith) h
         (ap (λ (x : ℕ). weight x (n - e)) half ∙ weight_shr (2 * m + r) 1 (n - e) ∙ ap (weight (2 * m + r)) above ∙ z)
-
-pub marked_all : (found : List ℕ) (e m : ℕ) → e ≤ 0 → MarkedFrom found e m → Marked found m
-marked_all found e m whole all =
-    let none : e ≡ 0 = omega arith in
-    record { small = marked_small all; unset = λ n h z. all.unset n (omega arith) h (ap (weight m) (at n none) ∙ z) }
-  where
-    at : (n : ℕ) → e ≡ 0 → n - e ≡ n
-    at n none = omega arith

@@ -7,11 +7,16 @@ use Rattle.matcher.specs.Words.{same_where}
 use Rattle.matcher.specs.Lined.{Only}
 use Rattle.matcher.specs.Ready.{GoodPattern}
 use Rattle.set_rules.specs.PatternSet.{PatternSet, pattern_at}
+use Rattle.set_tables.specs.declared.Patterns.{Patterns}
 use Rattle.set_tables.specs.Fronts.{front}
 
 -- the runs and the counts as the set
 abbrev pub set_of : List ℕ → List ℕ → List ℕ → PatternSet
 set_of bytes fixed counts = record { bytes = bytes; fixed = fixed; counts = counts }
+
+-- a set as it is lent
+abbrev pub lent : Patterns → PatternSet
+lent p = set_of p.bytes.now p.fixed.now p.counts.now
 
 -- What a set is when it has passed the refusals. `GoodPattern` names a method; plain takes patterns of every length, so naming it
 -- asks nothing more.

@@ -32,18 +32,10 @@ pub fn look(tables: &[u64], word: u64, found: &mut [u64]) -> u64
     ensures { Looked tables.now word found.old found.new result }
 {
     let mut any = 0u64;
-    let mut i = 0usize;
-    while i < 8 {
-        any = any | four(tables, word << i, i, found);
-        i += 1;
+    for i in 0usize..8 {
+        any |= four(tables, word << i, i, found);
     }
     any
-}
-
-fn one_if_some(flags: u64) -> u64
-    ensures { (result < 2) × (result ≡ 0 → flags ≡ 0) }
-{
-    if flags == 0 { 0 } else { 1 }
 }
 
 // A bit for each of the 32 places with some flag, the first one lowest.
@@ -52,10 +44,8 @@ pub fn marks(found: &[u64]) -> u64
     ensures { Marked found.now result }
 {
     let mut m = 0u64;
-    let mut e = 32usize;
-    while 0 < e {
-        e -= 1;
-        m = 2 * m + one_if_some(found[e]);
+    for e in (0usize..32).rev() {
+        m = 2 * m + u64::from(found[e] != 0);
     }
     m
 }

@@ -2,10 +2,14 @@
 // into which the patterns are entered one after the other; the tables, for eight bits each, are made of pairs of these.
 ghost use Rattle.std.specs.Prelude.{◌≡◌, ℕ, ◌+◌, ◌≤◌, length, get_or};
 ghost use Rattle.set_tables.specs.Fronts.{Halves, Kept};
-ghost use Rattle.set_tables.specs.Parts.{set_of, GoodSet, HalfEntered, Entered, RowPaired, PairedUp};
+ghost use Rattle.set_tables.specs.Parts.{lent, GoodSet, HalfEntered, Entered, RowPaired, PairedUp};
 
+use crate::Patterns;
 use bits::{ByteNo, load};
 use matcher::compare;
+
+// Four bits, each of which is fixed.
+const ALL_FIXED: u64 = 15;
 
 // Sets the flag in the words, from cell `at` on, of those values of four bits that agree with the first four of `value`
 // where `care` has ones.
@@ -13,12 +17,10 @@ fn enter_half(cells: &mut [u64], at: usize, value: u64, care: u64, flag: u64)
     requires { at + 16 ≤ length cells.old }
     ensures { HalfEntered at value care flag cells.old cells.new }
 {
-    let mut x = 0usize;
-    while x < 16 {
+    for x in 0usize..16 {
         if compare::same_where((x as u64) << 60, value, care, 4) {
-            cells[at + x] = cells[at + x] | flag;
+            cells[at + x] |= flag;
         }
-        x += 1;
     }
 }
 
@@ -27,9 +29,9 @@ fn enter_four(cells: &mut [u64], at: usize, value: u64, care: u64, flag: u64)
     requires { at + 16 ≤ length cells.old }
     ensures { HalfEntered at value care flag cells.old cells.new }
 {
-    if care >> 60 == 15 {
+    if care >> 60 == ALL_FIXED {
         let x = (value >> 60) as usize;
-        cells[at + x] = cells[at + x] | flag;
+        cells[at + x] |= flag;
     } else {
         enter_half(cells, at, value, care, flag);
     }
@@ -40,39 +42,31 @@ fn enter(cells: &mut [u64], value: u64, care: u64, flag: u64)
     requires { 128 ≤ length cells.old }
     ensures { Entered value care flag cells.old cells.new }
 {
-    let mut g = 0usize;
-    while g < 8 {
+    for g in 0usize..8 {
         enter_four(cells, 16 * g, value << (4 * g), care << (4 * g), flag);
-        g += 1;
     }
 }
 
 // What is kept of each pattern, and the words for four bits each.
-pub fn enter_all(
-    patterns: &[u8],
-    fixed: &[u8],
-    counts: &[u64],
-    rows: &mut [u64],
-    halves: &mut [u64],
-)
-    requires good_set { GoodSet (set_of patterns.now fixed.now counts.now) }
+pub fn enter_all(patterns: &Patterns, rows: &mut [u64], halves: &mut [u64])
+    requires good_set { GoodSet (lent patterns.now) }
     requires in_bounds { (192 ≤ length rows.old) × (128 ≤ length halves.old) × ((z : ℕ) → get_or halves.old z 0 ≡ 0) }
-    ensures { Kept (set_of patterns.now fixed.now counts.now) (length counts.now) rows.new × Halves (set_of patterns.now fixed.now counts.now) (length counts.now) halves.new }
+    ensures { Kept (lent patterns.now) (length patterns.now.counts.now) rows.new × Halves (lent patterns.now) (length patterns.now.counts.now) halves.new }
 {
-    let mut start = ByteNo(0);
-    let mut i = 0usize;
-    while i < counts.len() {
-        let m = counts[i];
-        let from = start.0;
-        let value = load::word_near_end(&patterns[from..], ByteNo(0));
-        let care = load::word_near_end(&fixed[from..], ByteNo(0)) & compare::front(m as u32);
+    let Patterns {
+        bytes,
+        fixed,
+        counts,
+    } = *patterns;
+    let mut start = 0usize;
+    for (i, &m) in counts.iter().enumerate() {
+        let value = load::word_near_end(&bytes[start..], ByteNo(0));
+        let care = load::word_near_end(&fixed[start..], ByteNo(0)) & compare::front(m as u32);
         enter(halves, value, care, 1 << i);
-        rows[i] = from as u64;
+        rows[i] = start as u64;
         rows[64 + i] = value & care;
         rows[128 + i] = care;
-        let next = from + bits::bytes_for(m) as usize;
-        start = ByteNo(next);
-        i += 1;
+        start += bits::bytes_for(m) as usize;
     }
 }
 
@@ -82,10 +76,8 @@ fn row(halves: &[u64], from: usize, first: u64, cells: &mut [u64], at: usize)
     requires { (from + 16 ≤ length halves.now) × (at + 16 ≤ length cells.old) }
     ensures { RowPaired from at first halves.now cells.old cells.new }
 {
-    let mut x = 0usize;
-    while x < 16 {
+    for x in 0usize..16 {
         cells[at + x] = first & halves[from + x];
-        x += 1;
     }
 }
 
@@ -94,10 +86,8 @@ pub fn pair_up(halves: &[u64], cells: &mut [u64])
     requires { (128 ≤ length halves.now) × (1024 ≤ length cells.old) }
     ensures { PairedUp halves.now cells.new × (length cells.new ≡ length cells.old) }
 {
-    let mut z = 0usize;
-    while z < 64 {
+    for z in 0usize..64 {
         let from = 32 * (z / 16);
         row(halves, from + 16, halves[from + z % 16], cells, 16 * z);
-        z += 1;
     }
 }

@@ -2,28 +2,27 @@
 -- Assumes nothing.
 use mathlib.Core.Path.{◌≡◌, refl, sym, ap, ◌∙◌}
 use mathlib.Core.Logic.{⊎_elim}
-use mathlib.Core.Bool.{Bool, true, false, true≢false, ◌&&◌}
+use mathlib.Core.Bool.{Bool, true, false, true≢false}
 use mathlib.Core.List.{List}
 use mathlib.Core.Option.{Option, none, some}
 use Prim.Native.Nat.{ℕ, suc, ◌+◌, ◌-◌, ◌*◌, ◌≤◌, ◌<◌, min}
 use native.Mathlib.Decide.{dec_le}
 use native.Mathlib.Omega.{arith}
 use lib.Count.{count_trailing_zeros, trailing_le}
-use lib.Dec.{ltb, eqb}
 use lib.ListN.{get_or}
-use borrow.Author.Tests.{le-leb, lt-leb, lt-ltb, ltb-true, eqb-true, eqb-false}
+use borrow.Author.Tests.{le-leb, lt-leb}
 use Rattle.bits.specs.Packed.{Packed, bit_at, weight}
 use Rattle.bits.proofs.Run.{bit_lt}
 use Rattle.bits.proofs.Weight.{bit_or_bit}
+use Rattle.rules.specs.declared.Method.TheVariants.{Wide}
 use Rattle.rules.specs.Ranges.{greatest}
 use Rattle.rules.specs.Pattern.{Pattern, agrees}
 use Rattle.rules.specs.Occurrence.{places}
 use Rattle.rules.specs.Wide.{window, last_index, beyond, wide_next}
 use Rattle.rules.specs.Step.{ahead, next}
 use Rattle.matcher.specs.Tables.{WideTables}
-use Rattle.matcher.specs.Ready.{text_of}
-use Rattle.wide.specs.Flags.{Move, Marked}
-use Rattle.rules.proofs.Ranges.{and_left, and_right, Greatest, IsGreatest, greatest_is}
+use Rattle.wide.specs.Flags.{Move}
+use Rattle.rules.proofs.Ranges.{Greatest, IsGreatest, greatest_is}
 use Rattle.matcher.proofs.SingleBits.{trailing_below, trailing_at}
 use Rattle.wide.proofs.WideTables.{bit_for, bit_lit, bit_unlit, passes_in}
 
@@ -46,10 +45,6 @@ greatest_none f k n = go (greatest f k) (greatest_is f k)
     go : (o : Option ℕ) → IsGreatest f k o → o ≡ none
     go none h = refl
     go (some i) h = absurd (true≢false (sym h.passes ∙ n i h.below))
-
--- the test of the search for the greatest index
-pub going_down : (k i : ℕ) → (ltb 0 k && eqb i 64) ≡ true → (0 < k) × (i ≡ 64)
-going_down k i e = (ltb-true 0 k (and_left (ltb 0 k) (eqb i 64) e), eqb-true i 64 (and_right (ltb 0 k) (eqb i 64) e))
 
 module _ (w : Pattern) (c : ℕ) where
   move_some : (j : ℕ) → Greatest (λ k. agrees w k c) w.count j → Move w c (64 + w.count - suc j)
@@ -85,16 +80,15 @@ module _ (w : Pattern) (c : ℕ) where
   pub down_start : (m : ℕ) → w.count ≡ m → Down m 64
   down_start m e = record { above = λ p l u. absurd (omega arith); here = λ l. absurd (omega arith) }
 
-  pub down_end : (k i r : ℕ) → Down k i → k ≤ w.count → i ≤ 64 → (ltb 0 k && eqb i 64) ≡ false → r + k ≡ 64 + w.count → Move w c r
-  down_end k i r d inside top e sum = go (dec_le 1 k)
+  pub down_end : (k i r : ℕ) → Down k i → k ≤ w.count → i ≤ 64 → (0 < k → i ≡ 64 → ⊥) → r + k ≡ 64 + w.count → Move w c r
+  down_end k i r d inside top stopped sum = go (dec_le 1 k)
     where
       go : Dec (1 ≤ k) → Move w c r
       go (no l) =
           let size : r ≡ 64 + w.count = omega arith in
           rw size (move_none (λ p u. d.above p (omega arith) u))
       go (yes l) =
-          let off : eqb i 64 ≡ false = rw (lt-ltb 0 k l) at e in
-          let other : i ≡ 64 → ⊥ = eqb-false i 64 off in
+          let other : i ≡ 64 → ⊥ = stopped l in
           let size : r ≡ 64 + w.count - suc (k - 1) = omega arith in
           rw size (move_some (k - 1)
           (record {
@@ -137,21 +131,16 @@ module _ (w : Pattern) (c : ℕ) where
     unfolding z
     low i l = trailing_below 64 flags i l
 
-    -- the lowest flag that is set, if there is one, is that of an index
-    pub down_found : count_trailing_zeros 64 flags < k → Down (k - count_trailing_zeros 64 flags) (count_trailing_zeros 64 flags)
+    -- the lowest flag that is set, if there is one, is that of an index, or lies below all of them
+    pub down_next : Down (k - count_trailing_zeros 64 flags) (count_trailing_zeros 64 flags)
     unfolding z
-    down_found l =
+    down_next =
         record {
           above = not_from (k - z) (λ i u. (omega (arith, z_le), low i (omega arith)));
           here = λ lit u.
               let back : k - 1 - (k - z - 1) ≡ z = omega arith in
               bit_lit _ (sym (of_index (k - z - 1) (omega arith) (omega arith)) ∙ ap (weight flags) back ∙ trailing_at 64 flags lit);
         }
-
-    -- it is that of no index
-    pub down_missing : k ≤ count_trailing_zeros 64 flags → Down 0 (count_trailing_zeros 64 flags)
-    unfolding z
-    down_missing l = record { above = not_from 0 (λ i u. (omega (arith, z_le), low i (omega arith))); here = λ a u. absurd (omega arith) }
 
 -- One of two by a bit
 
@@ -169,25 +158,19 @@ chosen_move w c x y l mx my = ⊎_elim (λ e. rw (zero e) (rw e mx)) (λ e. rw (
 
 -- The next mark
 
-module _ (bytes : List ℕ) (n m zero one s : ℕ) where
-  abbrev t : Packed
-  t = text_of bytes n
-
+module _ (t : Packed) (w : Pattern) (s : ℕ) where
   -- the window reaches the end of the text
-  pub marked_end : s + m ≤ n → n ≤ s + 63 + m → Marked t m zero one s (n - m + 1)
+  pub marked_end : s + w.count ≤ t.count → t.count ≤ s + 63 + w.count → t.count - w.count + 1 ≡ next Wide t w s
   unfolding next ahead wide_next
-  marked_end low h = record { mark = λ w e mz mo. rw (le-leb t.count (s + window w) (omega arith)) (omega arith) }
+  marked_end low h = rw (le-leb t.count (s + window w) (omega arith)) (omega arith)
 
   -- the bit after the window tells
-  pub marked : (c r : ℕ) → s + 63 + m < n → c ≡ bit_at bytes (s + 63 + m) → r ≡ min (s + ((1 - c) * zero + c * one)) (n - m + 1) → Marked t m zero one s r
+  pub marked : (x y : ℕ) → Move w 0 x → Move w 1 y → (c : ℕ) → s + 63 + w.count < t.count → c ≡ bit_at t.bytes (s + 63 + w.count)
+      → min (s + ((1 - c) * x + c * y)) (t.count - w.count + 1) ≡ next Wide t w s
   unfolding next ahead wide_next
-  marked c r h e f =
-      record {
-        mark = λ w same mz mo.
-            let end : n - m + 1 ≡ places t w = omega arith in
-            let after : s + 63 + m ≡ s + window w = omega arith in
-            let bit : bit_at bytes (s + window w) ≡ c = sym (e ∙ ap (bit_at bytes) after) in
-            f
-            ∙ ap (min (s + ((1 - c) * zero + c * one))) end
-            ∙ sym (rw (lt-leb t.count (s + window w) (omega arith), bit, (chosen_move w c zero one (rw e (bit_lt bytes (s + 63 + m))) mz mo).ahead s));
-      }
+  marked x y mx my c h e =
+      let end : t.count - w.count + 1 ≡ places t w = omega arith in
+      let after : s + 63 + w.count ≡ s + window w = omega arith in
+      let bit : bit_at t.bytes (s + window w) ≡ c = sym (e ∙ ap (bit_at t.bytes) after) in
+      ap (min (s + ((1 - c) * x + c * y))) end
+      ∙ sym (rw (lt-leb t.count (s + window w) (omega arith), bit, (chosen_move w c x y (rw e (bit_lt t.bytes (s + 63 + w.count))) mx my).ahead s))

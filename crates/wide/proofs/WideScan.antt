@@ -34,9 +34,6 @@ all_flags = 18446744073709551615
 
 -- Tests
 
-pub both_le : (a b c d : ℕ) → (leb a b && leb c d) ≡ true → (a ≤ b) × (c ≤ d)
-both_le a b c d e = (leb-true a b (and_left (leb a b) (leb c d) e), leb-true c d (and_right (leb a b) (leb c d) e))
-
 or_cases : (a b : Bool) → (a || b) ≡ true → (a ≡ true) ⊎ (b ≡ true)
 or_cases true b e = inl refl
 or_cases false b e = inr e
@@ -178,16 +175,14 @@ module _ (bytes cells : List ℕ) (s : ℕ) where
           let inner = within_is q (q + 8) p e in
           and_both (is_second m from p (record { byte = omega arith; low = omega arith; whole = omega arith })) (lt-ltb p (q + 16) (omega arith)))
 
-      pub pass_end : (f r : ℕ) → (leb q 72 && leb (q + 8) (m + 63)) ≡ false → Applies bytes cells s (passed m from q) f r
-          → Applies bytes cells s (second m from) f r
+      pub pass_end : (f r : ℕ) → (q ≤ 72 → q + 8 ≤ m + 63 → ⊥) → Applies bytes cells s (passed m from q) f r → Applies bytes cells s (second m from) f r
       pass_end f r stopped =
           applies_same (passed m from q) (second m from) f r
           (λ p e. and_both e (lt-ltb p q (elim (dec_le q p) [ yes l ↦ absurd (more p (second_is m from p e) l) | no l ↦ omega arith ])))
           (λ p e. and_left (second m from p) (ltb p q) e)
         where
           more : (p : ℕ) → Second m from p → q ≤ p → ⊥
-          more p z l =
-              true≢false (sym (and_both (le-leb q 72 (omega (arith, z.byte, z.low))) (le-leb (q + 8) (m + 63) (omega (arith, z.byte, z.whole)))) ∙ stopped)
+          more p z l = stopped (omega (arith, z.byte, z.low)) (omega (arith, z.byte, z.whole))
 
 -- The window bits of so many rounds
 

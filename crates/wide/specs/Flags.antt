@@ -6,10 +6,8 @@ use Rattle.std.specs.Int.Count.{ones}
 use Rattle.bits.specs.Packed.{Packed, bit_at, bit_of, weight}
 use Rattle.rules.specs.Ranges.{implies, every}
 use Rattle.rules.specs.Pattern.{Pattern}
-use Rattle.rules.specs.declared.Method.TheVariants.{Wide}
 use Rattle.rules.specs.Occurrence.{places, matches}
 use Rattle.rules.specs.Wide.{window, last_index, beyond}
-use Rattle.rules.specs.Step.{next}
 use Rattle.matcher.specs.Tables.{passes, WideTables}
 use Rattle.matcher.specs.Ready.{text_of}
 
@@ -98,7 +96,3 @@ Stand t w a b f = (p : ℕ) → a ≤ p → p < b → matches t w p ≡ true →
 pub record Flagged (t : Packed) (w : Pattern) (s f : ℕ) : Type 0 where
   pub stand : Stand (text_of t.bytes 0) w s (stop t w s) f
   pub inside : f < 2 ^ (stop t w s - s)
-
--- The next mark of a step at s is r, for each pattern of m bits whose moves these are.
-pub record Marked (t : Packed) (m zero one s r : ℕ) : Type 0 where
-  pub mark : (w : Pattern) → w.count ≡ m → Move w 0 zero → Move w 1 one → r ≡ next Wide t w s

@@ -5,51 +5,59 @@
 // how far the next mark lies ahead: where the last index of the pattern that agrees with that bit lies on it.
 #![tactic(auto)]
 
-ghost use Rattle.std.specs.Prelude.{◌≡◌, ◌+◌, ◌*◌, ◌^◌, ◌≤◌, ◌<◌, length};
+ghost use Rattle.std.specs.Prelude.{◌≡◌, ◌+◌, ◌*◌, ◌≤◌, ◌<◌, length};
 ghost use Rattle.bits.specs.Packed.{bytes_for};
 ghost use Rattle.rules.specs.Occurrence.{places};
 ghost use Rattle.rules.specs.Step.{next};
-ghost use Rattle.rules.specs.Scratch.{scratch_cells};
-ghost use Rattle.matcher.specs.Tables.{Prepared};
-ghost use Rattle.wide.specs.Flags.{StartsByte, Enters, Entered, Moves, within, second, Applies, Flagged, Scanned, Marked};
-ghost use Rattle.matcher.specs.Asked.{text_in, pattern_in};
-ghost use Rattle.matcher.specs.Progress.{Stepped, Advanced};
-ghost use Rattle.matcher.specs.Ready.{text_of, pattern_of, HeadOf, GoodPattern, Ready};
+ghost use Rattle.wide.specs.Flags.{StartsByte, Enters, Entered, Moves, within, second, Applies, Flagged, Scanned};
+ghost use Rattle.matcher.specs.Asked.{lent, text_in, pattern_in};
+ghost use Rattle.matcher.specs.Gives.{StepGives};
 
 use bits::{Place, bit, load};
-use matcher::compare::Known;
-use matcher::{Advance, Found, compare};
+use matcher::query::Pattern;
+use matcher::search::{Rule, Search};
+use matcher::steps::{Full, Matcher, Reached};
 use rules::Method;
+
+// The wide method.
+pub struct Wide;
+
+impl Rule for Wide {
+    ghost use Rattle.rules.specs.declared.Method.TheVariants as methods;
+
+    ghost method = { methods.Wide };
+}
 
 // Every flag stands.
 const ALL: u64 = 18446744073709551615;
 
-// Two numbers: one for window bits that are 0, and one for those that are 1.
+// Two values: one for bits of the text that are 0, and one for those that are 1.
 #[derive(Clone, Copy)]
-struct Pair {
-    zero: u64,
-    one: u64,
+struct ByBit<T> {
+    zero: T,
+    one: T,
 }
 
 // Flag 0 of each of the eight window bits from q on, the first bit highest. A bit of the pattern leaves it standing where it
 // is wild or the window bit is the same; after the pattern every bit does.
-fn entering(pattern: &[u8], fixed: &[u8], m: u32, q: u32) -> Pair
-    requires { (bytes_for m ≤ length pattern.now) × (bytes_for m ≤ length fixed.now) × StartsByte q × (q ≤ 4096) }
-    ensures { Enters (pattern_of pattern.now fixed.now m) 0 q result.zero × Enters (pattern_of pattern.now fixed.now m) 1 q result.one }
+fn entering(pattern: &Pattern, q: u32) -> ByBit<u64>
+    requires { (bytes_for pattern.now.m ≤ length pattern.now.bytes.now) × (bytes_for pattern.now.m ≤ length pattern.now.fixed.now) × StartsByte q × (q ≤ 4096) }
+    ensures { Enters (lent pattern.now) 0 q result.zero × Enters (lent pattern.now) 1 q result.one }
 {
+    let Pattern { bytes, fixed, m } = *pattern;
     if m <= q {
-        return Pair {
+        return ByBit {
             zero: 255,
             one: 255,
         };
     }
     let at = Place(q).byte().0;
-    let b = pattern[at] as u64;
-    let mut free = 255 - fixed[at] as u64;
+    let b = u64::from(bytes[at]);
+    let mut free = 255 - u64::from(fixed[at]);
     if m < q + 8 {
-        free = free | (255 >> (m - q));
+        free |= 255 >> (m - q);
     }
-    Pair {
+    ByBit {
         zero: (255 - b) | free,
         one: b | free,
     }
@@ -57,89 +65,74 @@ fn entering(pattern: &[u8], fixed: &[u8], m: u32, q: u32) -> Pair
 
 // Makes the cells of k window bits from q on. The flags of each are those before bit q, moved up, and below them a new flag
 // of each bit from q on.
-fn enter(q: u32, k: usize, zero: u64, one: u64, y: u64, x: u64, cells: &mut [u64])
+fn enter(q: u32, k: usize, flags: ByBit<u64>, new: ByBit<u64>, cells: &mut [u64])
     requires { (k ≤ 8) × (q ≤ 4096) × (2 * (q + k) ≤ length cells.old) }
-    ensures { Entered cells.old cells.new q k zero one y x }
+    ensures { Entered cells.old cells.new q k flags.zero flags.one new.zero new.one }
 {
-    let at = (2 * q) as usize;
-    let mut r = 0usize;
-    while r < k {
-        let i = at + 2 * r;
+    let at = 2 * q as usize;
+    for r in 0..k {
         let up = r + 1;
         let down = 7 - r;
-        cells[i] = (zero << up) | (y >> down);
-        cells[i + 1] = (one << up) | (x >> down);
-        r = up;
+        cells[at + 2 * r] = (flags.zero << up) | (new.zero >> down);
+        cells[at + 2 * r + 1] = (flags.one << up) | (new.one >> down);
     }
-}
-
-// The table, eight window bits at a time. The last ones, fewer than eight, lie after the pattern.
-pub fn prepare(pattern: &[u8], fixed: &[u8], m: u32, cells: &mut [u64])
-    requires good_pattern { GoodPattern Method.Wide (pattern_of pattern.now fixed.now m) }
-    requires m_in_bounds { scratch_cells Method.Wide m ≤ length cells.old }
-    ensures { Prepared Method.Wide (pattern_of pattern.now fixed.now m) cells.old cells.new }
-{
-    let mut zero = ALL;
-    let mut one = ALL;
-    let mut q = 0u32;
-    while q + 8 <= m + 63 {
-        let new = entering(pattern, fixed, m, q);
-        enter(q, 8, zero, one, new.zero, new.one, cells);
-        zero = (zero << 8) | new.zero;
-        one = (one << 8) | new.one;
-        q += 8;
-    }
-    enter(q, (m + 63 - q) as usize, zero, one, 255, 255, cells);
 }
 
 // How far the next mark lies ahead where the bit after the window is c. The flags of the window bit at the highest index
 // not yet looked at tell of 64 indices, the lowest flag of the greatest; k is one more than that index.
-fn move_of(m: u32, cells: &[u64], c: u32) -> u32
-    requires { (m ≤ 2048) × (c < 2) × (2 * (63 + m) ≤ length cells.now) }
-    ensures { Moves m cells.now c result }
+fn move_of(search: &Search<Wide>, c: u32) -> u32
+    requires { c < 2 }
+    ensures { Moves search.now.query.pattern.m search.now.cells.now c result }
 {
+    let m = search.query.pattern.m;
     let mut k = m;
     let mut i = 64u32;
-    while (0 < k) & (i == 64) {
-        i = u64::trailing_zeros(cells[(2 * (k - 1) + c) as usize]);
-        if i < k {
-            k -= i;
-        } else {
-            k = 0;
-        }
+    while 0 < k && i == 64 {
+        i = search.cells[(2 * (k - 1) + c) as usize].trailing_zeros();
+        k = k.saturating_sub(i);
     }
     64 + m - k
 }
 
-// The window's byte from bit q on is applied to the flags, by the cells of its eight bits.
-fn keep8(text: &[u8], cells: &[u64], s: Place, q: u32, flags: u64) -> u64
-    requires { (q ≤ 4096) × (2 * (q + 8) ≤ length cells.now) × (s.0 + q + 8 ≤ 2 ^ 30) × (bytes_for (s.0 + q + 8) ≤ length text.now) }
-    ensures { Applies text.now cells.now s.0 (within q (q + 8)) flags result }
+// Both moves.
+fn moves(search: &Search<Wide>) -> ByBit<u32>
+    ensures { Moves search.now.query.pattern.m search.now.cells.now 0 result.zero × Moves search.now.query.pattern.m search.now.cells.now 1 result.one }
 {
-    let at = s.0;
+    ByBit {
+        zero: move_of(search, 0),
+        one: move_of(search, 1),
+    }
+}
+
+// The window's byte from bit q on is applied to the flags, by the cells of its eight bits.
+fn keep8(search: &Search<Wide>, s: Place, q: u32, flags: u64) -> u64
+    requires { (q + 8 ≤ 63 + search.now.query.pattern.m) × (s.0 + 63 + search.now.query.pattern.m ≤ search.now.query.n) }
+    ensures { Applies search.now.query.text.now search.now.cells.now s.0 (within q (q + 8)) flags result }
+{
     let from = q as usize;
-    let x = load::byte_inside(text, Place(at + q));
+    let x = load::byte_inside(search.query.text, Place(s.0 + q));
     let mut f = flags;
-    let mut j = 0usize;
-    while j < 8 {
-        let c = (x >> (7 - j)) % 2;
-        f = f & cells[2 * (from + j) + c];
-        j += 1;
+    for j in 0..8usize {
+        f &= search.cells[2 * (from + j) + (x >> (7 - j)) % 2];
     }
     f
 }
 
-// Every second byte of the window from bit `from` on is applied to the flags, before bit 80.
-fn pass(text: &[u8], m: u32, cells: &[u64], s: Place, from: u32, flags: u64) -> u64
-    requires m_bound { (m ≤ 2048) × (2 * (63 + m) ≤ length cells.now) × StartsByte from × (from ≤ 8) }
-    requires m_bound_2 { (s.0 + 63 + m ≤ 2 ^ 30) × (bytes_for (s.0 + 63 + m) ≤ length text.now) }
-    ensures { Applies text.now cells.now s.0 (second m from) flags result }
+// Every second byte of the window from bit `from` on is applied to the flags, before bit 80. Where `from` is known the loop
+// is unrolled, and a call would cost a fifth more time.
+#[inline(always)]
+fn pass(search: &Search<Wide>, s: Place, from: u32, flags: u64) -> u64
+    requires { StartsByte from × (from ≤ 8) × (s.0 + 63 + search.now.query.pattern.m ≤ search.now.query.n) }
+    ensures { Applies search.now.query.text.now search.now.cells.now s.0 (second search.now.query.pattern.m from) flags result }
 {
+    let m = search.query.pattern.m;
     let mut f = flags;
-    let mut q = from;
-    while (q <= 72) & (q + 8 <= m + 63) {
-        f = keep8(text, cells, s, q, f);
-        q += 16;
+    for round in 0..5u32 {
+        let q = from + 16 * round;
+        if m + 63 < q + 8 {
+            break;
+        }
+        f = keep8(search, s, q, f);
     }
     f
 }
@@ -149,179 +142,164 @@ fn pass(text: &[u8], m: u32, cells: &[u64], s: Place, from: u32, flags: u64) -> 
 // round is two bytes of them. Where at most one flag stands, and mostly none does, a further round would cost more than a
 // comparison. The window is looked at only where the text goes on after it, so that no load needs a test for the end. In the
 // last step, where it does not, no round is made, and the flags of all places that are left stand.
-fn scan(text: &[u8], n: u32, m: u32, cells: &[u64], s: Place) -> u64
-    requires m_bound { (m ≤ 2048) × (2 * (63 + m) ≤ length cells.now) }
-    requires n_bound { (n ≤ 2 ^ 30) × (bytes_for n ≤ length text.now) × (s.0 + m ≤ n) }
-    ensures { Scanned (text_of text.now n) m cells.now s.0 result }
+fn scan(search: &Search<Wide>, s: Place) -> u64
+    requires { s.0 < places (text_in search.now.query) (pattern_in search.now.query) }
+    ensures { Scanned (text_in search.now.query) search.now.query.pattern.m search.now.cells.now s.0 result }
 {
-    let at = s.0;
-    let until = at + 63 + m;
+    let m = search.query.pattern.m;
+    let n = search.query.n;
+    let until = s.0 + 63 + m;
     if n <= until {
         return ALL >> (until - n);
     }
     if m < 64 {
-        let half = pass(text, m, cells, s, 0, ALL);
-        if u64::count_ones(half) < 2 {
+        let half = pass(search, s, 0, ALL);
+        if half.count_ones() < 2 {
             return half;
         }
-        return pass(text, m, cells, s, 8, half);
+        return pass(search, s, 8, half);
     }
     let mut f = ALL;
-    let mut q = 56u32;
-    while q + 16 <= m + 63 {
-        f = keep8(text, cells, s, q, f);
-        f = keep8(text, cells, s, q + 8, f);
+    for round in 0..(m + 7) / 16 {
+        let q = 56 + 16 * round;
+        f = keep8(search, s, q, f);
+        f = keep8(search, s, q + 8, f);
         if f == 0 {
             return 0;
         }
-        if u64::count_ones(f) < 2 {
+        if f.count_ones() < 2 {
             return f;
         }
-        q += 16;
     }
     f
 }
 
 // The mark after the step at s: E in the last step, else by the bit after the window. That is a product and no branch: a
 // processor cannot predict the bits of a text.
-fn next_mark(text: &[u8], n: u32, m: u32, zero: u32, one: u32, s: Place) -> Place
-    requires m_bound { (m ≤ 2048) × (zero ≤ 64 + m) × (one ≤ 64 + m) }
-    requires n_bound { (n ≤ 2 ^ 30) × (s.0 + m ≤ n) }
-    ensures { Marked (text_of text.now n) m zero one s.0 result.0 }
+fn next_mark(search: &Search<Wide>, by_bit: ByBit<u32>, s: Place) -> Place
+    requires inside { s.0 < places (text_in search.now.query) (pattern_in search.now.query) }
+    requires moves { Moves search.now.query.pattern.m search.now.cells.now 0 by_bit.zero × Moves search.now.query.pattern.m search.now.cells.now 1 by_bit.one }
+    ensures { result.0 ≡ next Method.Wide (text_in search.now.query) (pattern_in search.now.query) s.0 }
 {
     let at = s.0;
+    let m = search.query.pattern.m;
+    let n = search.query.n;
     let end = n - m + 1;
     let after = at + 63 + m;
-    let mut next = end;
     if after < n {
-        let c = bit::bit(text, Place(after)) as u32;
-        let ahead = at + ((1 - c) * zero + c * one);
-        if ahead < end {
-            next = ahead;
-        }
+        let c = u32::from(bit::bit(search.query.text, Place(after)));
+        let ahead = at + ((1 - c) * by_bit.zero + c * by_bit.one);
+        return Place(ahead.min(end));
     }
-    Place(next)
+    Place(end)
 }
 
 // Takes the flags lowest first, and writes the places at which the pattern stands.
 fn settle(
-    text: &[u8],
-    pattern: &[u8],
-    fixed: &[u8],
-    known: Known,
+    search: &Search<Wide>,
     s: Place,
     to: Place,
     flags: u64,
     list: &mut [u32],
-    had: usize,
-) -> Found
-    requires m_nonzero { (0 < known.m) × (known.m ≤ 2048) × (known.n ≤ 2 ^ 30) × (s.0 < places (text_in text.now known) (pattern_in pattern.now fixed.now known)) × (had ≤ length list.old) }
-    requires head_of { HeadOf (pattern_in pattern.now fixed.now known) known.head known.mask }
-    requires flagged { Flagged (text_in text.now known) (pattern_in pattern.now fixed.now known) s.0 flags }
-    requires to_value { to.0 ≡ next Method.Wide (text_in text.now known) (pattern_in pattern.now fixed.now known) s.0 }
-    ensures { Stepped Method.Wide (text_in text.now known) (pattern_in pattern.now fixed.now known) s.0 list.old had result.at.0 result.hits result.full list.new }
+) -> Result<Reached, Full>
+    requires inside { s.0 < places (text_in search.now.query) (pattern_in search.now.query) }
+    requires flagged { Flagged (text_in search.now.query) (pattern_in search.now.query) s.0 flags }
+    requires to_value { to.0 ≡ next Method.Wide (text_in search.now.query) (pattern_in search.now.query) s.0 }
+    ensures { StepGives Method.Wide (text_in search.now.query) (pattern_in search.now.query) s.0 list.old result list.new }
 {
     let mut at = s.0;
     let mut f = flags;
-    let mut hits = had;
+    let mut hits = 0usize;
     while f != 0 {
-        let i = u64::trailing_zeros(f);
+        let i = f.trailing_zeros();
         let p = at + i;
         f = (f >> i) >> 1;
         at = p + 1;
-        if compare::same(text, pattern, fixed, known, Place(p)) {
+        if search.query.same(Place(p)) {
             if list.len() <= hits {
-                return Found {
+                return Err(Full(Reached {
                     at: Place(p),
-                    hits: hits,
-                    full: true,
-                };
+                    steps: 0,
+                    hits,
+                }));
             }
             list[hits] = p;
             hits += 1;
         }
     }
-    Found {
+    Ok(Reached {
         at: to,
-        hits: hits,
-        full: false,
+        steps: 1,
+        hits,
+    })
+}
+
+impl Matcher for Wide {
+    // The table, eight window bits at a time. The last ones, fewer than eight, lie after the pattern.
+    fn prepare(pattern: &Pattern, cells: &mut [u64]) {
+        let count = pattern.m + 63;
+        let mut flags = ByBit {
+            zero: ALL,
+            one: ALL,
+        };
+        for byte in 0..count / 8 {
+            let q = 8 * byte;
+            let new = entering(pattern, q);
+            enter(q, 8, flags, new, cells);
+            flags = ByBit {
+                zero: (flags.zero << 8) | new.zero,
+                one: (flags.one << 8) | new.one,
+            };
+        }
+        let after = ByBit {
+            zero: 255,
+            one: 255,
+        };
+        enter(count / 8 * 8, (count % 8) as usize, flags, after, cells);
     }
-}
 
-// One step: the flags of its 64 places, and those that stand settled by comparison.
-pub fn step(
-    text: &[u8],
-    pattern: &[u8],
-    fixed: &[u8],
-    known: Known,
-    cells: &[u64],
-    s: Place,
-    list: &mut [u32],
-    had: usize,
-) -> Found
-    requires ready { Ready Method.Wide (text_in text.now known) (pattern_in pattern.now fixed.now known) cells.now }
-    requires head_of { HeadOf (pattern_in pattern.now fixed.now known) known.head known.mask }
-    requires s_bound { (s.0 < places (text_in text.now known) (pattern_in pattern.now fixed.now known)) × (had ≤ length list.old) }
-    ensures { Stepped Method.Wide (text_in text.now known) (pattern_in pattern.now fixed.now known) s.0 list.old had result.at.0 result.hits result.full list.new }
-{
-    let zero = move_of(known.m, cells, 0);
-    let one = move_of(known.m, cells, 1);
-    let to = next_mark(text, known.n, known.m, zero, one, s);
-    let flags = scan(text, known.n, known.m, cells, s);
-    settle(text, pattern, fixed, known, s, to, flags, list, had)
-}
+    // The flags of the step's 64 places, and those that stand settled by comparison.
+    fn step(search: &Search<Wide>, s: Place, list: &mut [u32]) -> Result<Reached, Full> {
+        let to = next_mark(search, moves(search), s);
+        let flags = scan(search, s);
+        settle(search, s, to, flags, list)
+    }
 
-// Many steps with their list, until the budget is used up, an occurrence finds no free cell, or no place is left. Both moves are
-// made once for all of them, and a step whose flags all fell has nothing to settle.
-pub fn advance(
-    text: &[u8],
-    pattern: &[u8],
-    fixed: &[u8],
-    known: Known,
-    cells: &[u64],
-    s: Place,
-    budget: u32,
-    list: &mut [u32],
-    had: usize,
-) -> Advance
-    requires ready { Ready Method.Wide (text_in text.now known) (pattern_in pattern.now fixed.now known) cells.now }
-    requires head_of { HeadOf (pattern_in pattern.now fixed.now known) known.head known.mask }
-    requires s_bound { (s.0 ≤ places (text_in text.now known) (pattern_in pattern.now fixed.now known)) × (had ≤ length list.old) }
-    ensures { Advanced Method.Wide (text_in text.now known) (pattern_in pattern.now fixed.now known) s.0 budget list.old had result.at.0 result.steps result.hits result.full list.new }
-{
-    let end = known.n - known.m + 1;
-    let zero = move_of(known.m, cells, 0);
-    let one = move_of(known.m, cells, 1);
-    let mut at = s.0;
-    let mut steps = 0u32;
-    let mut hits = had;
-    while (at < end) & (steps < budget) {
-        let from = Place(at);
-        let to = next_mark(text, known.n, known.m, zero, one, from);
-        let flags = scan(text, known.n, known.m, cells, from);
-        if flags == 0 {
-            steps += 1;
-            at = to.0;
-        } else {
-            let found = settle(text, pattern, fixed, known, from, to, flags, list, hits);
-            let there = found.at;
-            hits = found.hits;
-            if found.full {
-                return Advance {
-                    at: there,
-                    steps: steps,
-                    hits: hits,
-                    full: true,
-                };
+    // Both moves are made once for all steps, and a step whose flags all fell has nothing to settle.
+    fn advance(
+        search: &Search<Wide>,
+        s: Place,
+        budget: u32,
+        list: &mut [u32],
+    ) -> Result<Reached, Full> {
+        let end = search.query.n - search.query.pattern.m + 1;
+        let by_bit = moves(search);
+        let mut at = s.0;
+        let mut steps = 0u32;
+        let mut hits = 0usize;
+        while at < end && steps < budget {
+            let from = Place(at);
+            let to = next_mark(search, by_bit, from);
+            let flags = scan(search, from);
+            if flags != 0 {
+                match settle(search, from, to, flags, &mut list[hits..]) {
+                    Ok(settled) => hits += settled.hits,
+                    Err(Full(cut)) => {
+                        return Err(Full(Reached {
+                            at: cut.at,
+                            steps,
+                            hits: hits + cut.hits,
+                        }));
+                    }
+                }
             }
             steps += 1;
-            at = there.0;
+            at = to.0;
         }
-    }
-    Advance {
-        at: Place(at),
-        steps: steps,
-        hits: hits,
-        full: false,
+        Ok(Reached {
+            at: Place(at),
+            steps,
+            hits,
+        })
     }
 }

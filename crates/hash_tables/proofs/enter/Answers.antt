@@ -17,7 +17,7 @@ value c =
     let a = c.args in
     let l = c.loop-r in
     let there : a.pattern.now.m - 8 - a.d + l.r ≡ a.pattern.now.m - 8 - (a.d - l.r) = omega arith in
-    ap (λ (y : ℕ). y / 2 ^ 56) l.invariant.1
+    ap (λ (y : ℕ). y / 2 ^ 56) l.invariant.shift
     ∙ shifted_first a.pattern.now.bytes.now (a.pattern.now.m - 8 - a.d) l.r (omega arith)
     ∙ ap (λ (n : ℕ). bits_at a.pattern.now.bytes.now n 8) there
 
@@ -30,30 +30,27 @@ pub loop-r-init : goal.loop-r-init
 loop-r-init c =
     let a = c.args in
     let all : a.d - 0 ≡ a.d = omega arith in
-    (omega arith, c.word_at-x.ensures ∙ shifted_none a.pattern.now.bytes.now (a.pattern.now.m - 8 - a.d), rw all c.requires.entered)
+    record { shift = c.word_at-x.ensures ∙ shifted_none a.pattern.now.bytes.now (a.pattern.now.m - 8 - a.d); entered = rw all c.requires.entered }
 
 pub offset_bounds-cells-x : goal.offset_bounds-cells-x
 offset_bounds-cells-x c = omega (arith, value_lt c)
 
 pub bounds-cells-x : goal.bounds-cells-x
-bounds-cells-x c = omega (arith, value_lt c, c.loop-r.invariant.2.size)
+bounds-cells-x c = omega (arith, value_lt c, c.loop-r.invariant.entered.size)
 
 pub loop-r-preserved : goal.loop-r-preserved
 loop-r-preserved c =
     let a = c.args in
     let l = c.loop-r in
-    let less : a.d - (l.r + 1) ≡ a.d - l.r - 1 = omega arith in (
-      omega arith,
-      ap (λ (y : ℕ). (y * 2 ^ 1) % 2 ^ 64) l.invariant.1 ∙ shifted_more a.pattern.now.bytes.now (a.pattern.now.m - 8 - a.d) l.r (omega arith),
-      rw less (entered_more (lent a.pattern.now) c.requires.all_fixed a.cells.now l.cells (a.d - l.r) _ l.invariant.2 (omega arith) (omega arith) (omega arith) (value c)),
-    )
-
-pub shape_of-cells : goal.shape_of-cells
-shape_of-cells c = c.loop-r.invariant.2.size
+    let less : a.d - (l.r + 1) ≡ a.d - l.r - 1 = omega arith in
+    record {
+      shift = ap (λ (y : ℕ). (y * 2 ^ 1) % 2 ^ 64) l.invariant.shift ∙ shifted_more a.pattern.now.bytes.now (a.pattern.now.m - 8 - a.d) l.r (omega arith);
+      entered = rw less (entered_more (lent a.pattern.now) c.requires.all_fixed a.cells.now l.cells (a.d - l.r) _ l.invariant.entered (omega arith) (omega arith) (omega arith) (value c));
+    }
 
 pub returns : goal.returns
 returns c =
     let a = c.args in
     let l = c.loop-r in
     let all : l.r ≡ a.k = omega arith in
-    rw all at l.invariant.2
+    rw all at l.invariant.entered

@@ -5,32 +5,21 @@ use Rattle.hash_tables.proofs.HashRows.{rows_none, rows_more, rows_all}
 use Rattle.hash_tables.proofs.settle.Goals as goal
 
 pub loop-high-init : goal.loop-high-init
-loop-high-init c = (omega arith, rows_none c.args.d c.args.cells.now)
-
-pub bounds-cells-high : goal.bounds-cells-high
-bounds-cells-high c = omega (arith, c.loop-high.invariant.1.size)
+loop-high-init c = rows_none c.args.d c.args.cells.now
 
 pub settle_row-kept-requires : goal.settle_row-kept-requires
 settle_row-kept-requires c =
     let l = c.loop-high in
-    let r = l.invariant.1 in record { high_bound = (omega arith, omega arith, omega (arith, r.size)); unions = λ g small. union_same g c.args.cells.now l.cells small (c.requires.unions g small) (λ i h k. r.later i (omega arith) (inl (omega arith))) }
-
-pub bounds-cells-high-in-loop-high : goal.bounds-cells-high-in-loop-high
-bounds-cells-high-in-loop-high c = omega (arith, c.loop-high.invariant.1.size, c.settle_row-kept.ensures.only.size)
+    let r = l.invariant in record { high_bound = (omega arith, omega arith, omega (arith, r.size)); unions = λ g small. union_same g c.args.cells.now l.cells small (c.requires.unions g small) (λ i h k. r.later i (omega arith) (inl (omega arith))) }
 
 pub loop-high-preserved : goal.loop-high-preserved
 loop-high-preserved c =
     let l = c.loop-high in
-    let a = c.args in (
-      omega arith,
-      rows_more a.d a.cells.now l.cells l.high l.unset l.invariant.1 (omega arith) _ _ c.settle_row-kept.ensures (omega arith),
-    )
-
-pub shape_of-cells : goal.shape_of-cells
-shape_of-cells c = c.loop-high.invariant.1.size
+    let a = c.args in
+    rows_more a.d a.cells.now l.cells l.high l.unset l.invariant (omega arith) _ _ c.settle_row-kept.ensures (omega arith)
 
 pub returns : goal.returns
 returns c =
     let a = c.args in
     let l = c.loop-high in
-    rows_all a.d a.cells.now l.cells l.high l.unset l.invariant.1 (omega arith)
+    rows_all a.d a.cells.now l.cells l.high l.unset l.invariant (omega arith)

@@ -19,7 +19,7 @@ moves_is : (c : After-if_in)
     weight l.kept l.low ≡ 1 → bit_and c.if_in.result a.later ≡ moves_of a.cells.now a.high l.low
 moves_is c one =
     let l = c.loop-low in
-    ap₂ bit_and (c.if_in.ensures ∙ ap (λ (b : ℕ). get_or l.cells (262 + l.low) 0 * b) one ∙ omega arith ∙ l.invariant.2.high (262 + l.low) (omega arith)) c.requires.later_value
+    ap₂ bit_and (c.if_in.ensures ∙ ap (λ (b : ℕ). get_or l.cells (262 + l.low) 0 * b) one ∙ omega arith ∙ l.invariant.only.high (262 + l.low) (omega arith)) c.requires.later_value
 
 -- else it is 0
 moves_zero : (c : After-if_in)
@@ -50,25 +50,13 @@ few_moves : (c : After-if_in)
 few_moves c = trailing_le 64 _
 
 pub loop-low-init : goal.loop-low-init
-loop-low-init c = (omega arith, omega arith, only_none, λ w long words r. r)
-
-pub bounds-cells-low : goal.bounds-cells-low
-bounds-cells-low c = omega (arith, c.loop-low.invariant.2.size)
-
-pub if_in-requires : goal.if_in-requires
-if_in-requires c = omega arith
+loop-low-init c = record { only = only_none; part = λ w long words r. r }
 
 pub overflow_add-cells-then-moves-ne0 : goal.overflow_add-cells-then-moves-ne0
 overflow_add-cells-then-moves-ne0 c = omega (arith, few_moves (goal.at.overflow_add-cells-then-moves-ne0 c).After-if_in)
 
 pub overflow_cast-cells : goal.overflow_cast-cells
 overflow_cast-cells c = omega (arith, few_moves (goal.at.overflow_cast-cells c).After-if_in)
-
-pub bounds-cells-high : goal.bounds-cells-high
-bounds-cells-high c = omega (arith, c.loop-low.invariant.2.size)
-
-pub overflow_shl-kept : goal.overflow_shl-kept
-overflow_shl-kept c = omega arith
 
 pub loop-low-preserved : goal.loop-low-preserved
 loop-low-preserved c =
@@ -80,34 +68,27 @@ loop-low-preserved c =
           let moves = moves_is (goal.at.loop-low-preserved c).After-if_in one in
           let small : moves_of a.cells.now a.high l.low < 2 ^ 64 =
           omega (arith, moves, and_le_r c.if_in.result a.later) in
-          rw (w.cells-is, w.kept-is) (
-            omega arith,
-            omega arith,
-            only_set (16 * a.high + l.low) _ l.invariant.2 (omega arith) (omega arith),
-            λ p long words r.
+          rw (w.cells-is, w.kept-is) (record {
+            only = only_set (16 * a.high + l.low) _ l.invariant.only (omega arith) (omega arith);
+            part = λ p long words r.
                 rw moves
-                (part_set p long a.d a.cells.now words a.high (omega arith) (omega arith) (l.invariant.3 p long words r) one small
-                (λ z. w.if-moves-ne0.true (moves ∙ z)) (omega (arith, l.invariant.2.size))),
-          )
+                (part_set p long a.d a.cells.now words a.high (omega arith) (omega arith) (l.invariant.part p long words r) one small
+                (λ z. w.if-moves-ne0.true (moves ∙ z)) (omega (arith, l.invariant.only.size)));
+          })
       | else-moves-ne0 w ↦
-          rw (w.cells-is, w.kept-is) (
-            omega arith,
-            omega arith,
-            l.invariant.2,
-            λ p long words r.
-                part_pass p long a.d a.cells.now words a.high (omega arith) (l.low + 1) (omega arith) (l.invariant.3 p long words r)
+          rw (w.cells-is, w.kept-is) (record {
+            only = l.invariant.only;
+            part = λ p long words r.
+                part_pass p long a.d a.cells.now words a.high (omega arith) (l.low + 1) (omega arith) (l.invariant.part p long words r)
                 (λ low from to one e.
                 let here : low ≡ l.low = omega arith in
                 let z : moves_of a.cells.now a.high l.low ≡ 0 = sym (moves_is (goal.at.loop-low-preserved c).After-if_in (rw here at one)) ∙ w.if-moves-ne0.false in
-                rw here (ap (λ (x : ℕ). weight x e) z ∙ weight_zero e)),
-          )
+                rw here (ap (λ (x : ℕ). weight x e) z ∙ weight_zero e));
+          })
     ]
-
-pub shape_of-cells : goal.shape_of-cells
-shape_of-cells c = c.loop-low.invariant.2.size
 
 pub returns : goal.returns
 returns c =
     let l = c.loop-low in
     let end : l.low ≡ 4 * c.args.g + 4 = omega arith in
-    record { part = λ w long words r. rw end at (l.invariant.3 w long words r); only = l.invariant.2 }
+    record { part = λ w long words r. rw end at (l.invariant.part w long words r); only = l.invariant.only }

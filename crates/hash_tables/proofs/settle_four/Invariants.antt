@@ -1,16 +1,14 @@
 -- `hash_tables::settle_four` meets its contract. The loop's invariant: the cells before `low` have the moves up to d + 57.
 -- Assumes nothing.
-use Prim.Native.Nat.{◌+◌, ◌-◌, ◌*◌, ◌≤◌}
+use Prim.Native.Nat.{◌+◌, ◌*◌, ◌≤◌}
 use Rattle.rules.specs.Pattern.{Pattern}
 use Rattle.matcher.specs.Lined.{Words, Only}
 use Rattle.hash_tables.specs.HashWords.{Part}
 use Rattle.hash_tables.proofs.settle_four.Given as goal
 
 abbrev pub invariant-loop-low : goal.invariant-loop-low
-invariant-loop-low l = (4 * l.g ≤ l.low)
-    × (l.low ≤ 4 * l.g + 4)
-    × Only (16 * l.high) (16 * l.high + 16) l.initial.cells l.cells
-    × ((w : Pattern) → 1 ≤ w.count → Words w (l.d + 1) 4 262 l.initial.cells → Part w l.d l.high (4 * l.g) l.unset l.initial.cells → Part w l.d l.high l.low l.kept l.cells)
-
-abbrev pub decreases-loop-low : goal.decreases-loop-low
-decreases-loop-low l = 4 * l.g + 4 - l.low
+invariant-loop-low l =
+    record {
+      only : Only (16 * l.high) (16 * l.high + 16) l.initial.cells l.cells;
+      part : (w : Pattern) → 1 ≤ w.count → Words w (l.d + 1) 4 262 l.initial.cells → Part w l.d l.high (4 * l.g) l.unset l.initial.cells → Part w l.d l.high l.low l.kept l.cells;
+    }

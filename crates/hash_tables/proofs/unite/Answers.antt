@@ -23,36 +23,18 @@ passed_more words g cells n v p room this s l = go (eq_or_below (omega arith))
     go (inr h) = rw (get_or-set_other cells (278 + 16 * g + n) (278 + 16 * g + s) v 0 (λ e. absurd (omega arith))) (p s h)
 
 pub loop-set-init : goal.loop-set-init
-loop-set-init c = (omega arith, only_none, λ s l. absurd (omega arith))
-
-pub if_in-requires : goal.if_in-requires
-if_in-requires c = omega arith
-
-pub if_in-requires-in-loop-set : goal.if_in-requires-in-loop-set
-if_in-requires-in-loop-set c = omega arith
-
-pub if_in-requires-in-loop-set-2 : goal.if_in-requires-in-loop-set-2
-if_in-requires-in-loop-set-2 c = omega arith
-
-pub if_in-requires-in-loop-set-3 : goal.if_in-requires-in-loop-set-3
-if_in-requires-in-loop-set-3 c = omega arith
-
-pub bounds-cells-g-in-loop-set : goal.bounds-cells-g-in-loop-set
-bounds-cells-g-in-loop-set c = omega (arith, c.loop-set.invariant.1.size)
+loop-set-init c = record { only = only_none; united = λ s l. absurd (omega arith) }
 
 pub loop-set-preserved : goal.loop-set-preserved
 loop-set-preserved c =
     let a = c.args in
-    let l = c.loop-set in (
-      omega arith,
-      only_set (278 + 16 * a.g + l.set) _ l.invariant.1 (omega arith) (omega arith),
-      passed_more a.cells.now a.g l.cells l.set _ l.invariant.2 (omega (arith, l.invariant.1.size))
+    let l = c.loop-set in
+    record {
+      only = only_set (278 + 16 * a.g + l.set) _ l.invariant.only (omega arith) (omega arith);
+      united = passed_more a.cells.now a.g l.cells l.set _ l.invariant.united (omega (arith, l.invariant.only.size))
           (union_has a.cells.now (262 + 4 * a.g) l.set _ _ _ _ c.if_in.ensures c.if_in-in-loop-set.ensures
-          c.if_in-in-loop-set-2.ensures c.if_in-in-loop-set-3.ensures),
-    )
-
-pub shape_of-cells : goal.shape_of-cells
-shape_of-cells c = c.loop-set.invariant.1.size
+          c.if_in-in-loop-set-2.ensures c.if_in-in-loop-set-3.ensures);
+    }
 
 pub returns : goal.returns
 returns c =
@@ -60,6 +42,6 @@ returns c =
     let l = c.loop-set in
     record {
       union = λ s small j e inside one.
-          rw (l.invariant.1.low (262 + 4 * a.g + j) (omega arith)) (l.invariant.2 s (omega arith) j e inside one);
-      only = l.invariant.1;
+          rw (l.invariant.only.low (262 + 4 * a.g + j) (omega arith)) (l.invariant.united s (omega arith) j e inside one);
+      only = l.invariant.only;
     }

@@ -9,7 +9,7 @@ use Rattle.wide.proofs.WideMoves.{Down}
 use Rattle.wide.proofs.move_of.Given as goal
 
 abbrev pub invariant-loop-k : goal.invariant-loop-k
-invariant-loop-k l = (l.k ≤ l.m) × (l.i ≤ 64) × ((w : Pattern) → w.count ≡ l.m → WideTables w l.cells → Down w l.c l.k l.i)
+invariant-loop-k l = (l.k ≤ l.search.query.pattern.m) × (l.i ≤ 64) × ((w : Pattern) → w.count ≡ l.search.query.pattern.m → WideTables w l.search.cells.now → Down w l.c l.k l.i)
 
 abbrev pub decreases-loop-k : goal.decreases-loop-k
 decreases-loop-k l = l.k + l.i / 64

@@ -1,46 +1,35 @@
-use Prim.Native.Nat.{◌+◌}
+use mathlib.Core.Path.{◌≡◌}
+use Prim.Native.Nat.{◌+◌, ◌*◌}
 use native.Mathlib.Omega.{arith}
-use Rattle.wide.proofs.WideScan.{pass_start, pass_more, pass_end, both_le}
+use Rattle.wide.proofs.WideScan.{pass_start, pass_more, pass_end}
 use Rattle.wide.proofs.pass.Goals as goal
 
-pub loop-q-init : goal.loop-q-init
-loop-q-init c =
+pub loop-round-init : goal.loop-round-init
+loop-round-init c =
     let a = c.args in
-    (pass_start a.text.now a.cells.now a.s.0 a.m a.from (omega arith) (omega arith) a.flags, omega arith, omega arith)
+    let start : a.from + 0 ≡ a.from = omega arith in
+    rw start (pass_start a.search.now.query.text.now a.search.now.cells.now a.s.0 a.search.now.query.pattern.m a.from (omega arith) (omega arith) a.flags)
 
-pub overflow_add-q : goal.overflow_add-q
-overflow_add-q c = omega arith
-
-pub overflow_add-m : goal.overflow_add-m
-overflow_add-m c = omega arith
-
-pub keep8-f-requires : goal.keep8-f-requires
-keep8-f-requires c =
-    let l = c.loop-q in
+pub loop-round-preserved : goal.loop-round-preserved
+loop-round-preserved c =
+    let l = c.loop-round in
     let a = c.args in
-    omega (arith, both_le l.q 72 (l.q + 8) (a.m + 63) c.loop-q-test.true)
+    let next : a.from + 16 * l.round + 16 ≡ a.from + 16 * (l.round + 1) = omega arith in
+    rw next at
+    (pass_more a.search.now.query.text.now a.search.now.cells.now a.s.0 a.search.now.query.pattern.m a.from (omega arith) (omega arith) (a.from + 16 * l.round) (omega arith)
+    a.flags l.f c.keep8-f.result (omega arith) (omega arith) l.invariant c.keep8-f.ensures)
 
-pub overflow_add-q-in-loop-q : goal.overflow_add-q-in-loop-q
-overflow_add-q-in-loop-q c = omega arith
-
-pub loop-q-smaller : goal.loop-q-smaller
-loop-q-smaller c =
-    let l = c.loop-q in
+-- no byte is left
+pub returns-after-loop-round : goal.returns-after-loop-round
+returns-after-loop-round c =
+    let l = c.loop-round in
     let a = c.args in
-    omega (arith, both_le l.q 72 (l.q + 8) (a.m + 63) c.loop-q-test.true)
+    pass_end a.search.now.query.text.now a.search.now.cells.now a.s.0 a.search.now.query.pattern.m a.from (omega arith) (omega arith) (a.from + 16 * l.round) (omega arith)
+    a.flags l.f (λ low whole. omega arith) l.invariant
 
-pub loop-q-preserved : goal.loop-q-preserved
-loop-q-preserved c =
-    let l = c.loop-q in
+pub returns-then-m-q : goal.returns-then-m-q
+returns-then-m-q c =
+    let l = c.loop-round in
     let a = c.args in
-    let test = both_le l.q 72 (l.q + 8) (a.m + 63) c.loop-q-test.true in (
-      pass_more a.text.now a.cells.now a.s.0 a.m a.from (omega arith) (omega arith) l.q l.invariant.1 a.flags l.f c.keep8-f.result test.0 test.1 l.invariant.0 c.keep8-f.ensures,
-      omega arith,
-      omega arith,
-    )
-
-pub returns : goal.returns
-returns c =
-    let l = c.loop-q in
-    let a = c.args in
-    pass_end a.text.now a.cells.now a.s.0 a.m a.from (omega arith) (omega arith) l.q l.invariant.1 a.flags l.f c.loop-q-test.false l.invariant.0
+    pass_end a.search.now.query.text.now a.search.now.cells.now a.s.0 a.search.now.query.pattern.m a.from (omega arith) (omega arith) (a.from + 16 * l.round) (omega arith)
+    a.flags l.f (λ low whole. omega arith) l.invariant

@@ -8,7 +8,7 @@ use Rattle.wide.proofs.WideFlags.{Settling}
 use Rattle.wide.proofs.settle.Given as goal
 
 abbrev pub invariant-loop-f : goal.invariant-loop-f
-invariant-loop-f l = Settling (text_in l.text l.known) (pattern_in l.pattern l.fixed l.known) l.initial.at l.initial.list l.had l.list l.at l.f l.hits
+invariant-loop-f l = Settling (text_in l.search.query) (pattern_in l.search.query) l.initial.at l.initial.list 0 l.list l.at l.f l.hits
 
 abbrev pub decreases-loop-f : goal.decreases-loop-f
-decreases-loop-f l = stop (text_in l.text l.known) (pattern_in l.pattern l.fixed l.known) l.initial.at - l.at
+decreases-loop-f l = stop (text_in l.search.query) (pattern_in l.search.query) l.initial.at - l.at

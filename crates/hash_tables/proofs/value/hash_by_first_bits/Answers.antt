@@ -4,7 +4,6 @@ use mathlib.Core.Bool.{true}
 use Prim.Native.Nat.{ℕ, ◌+◌, ◌-◌, ◌*◌, ◌/◌, ◌%◌, ◌^◌}
 use native.Mathlib.Omega.{arith}
 use lib.Bits.{bit_and, bit_xor}
-use lib.Pow.{pow_pos}
 use Rattle.rules.specs.Hash.{meets}
 use Rattle.matcher.specs.Asked.{lent}
 use Rattle.hash_tables.proofs.HashValues.{long_enough, none_more, hash_is, hash_last, one_shl, shown_first}
@@ -14,46 +13,34 @@ use Rattle.hash_tables.proofs.value.hash_by_first_bits.Goals.{In-loop-k}
 -- what the test in the loop says
 tested : (c : In-loop-k)
     → let a = c.args in
-    let k = c.loop-k.k in
+    let k = c.loop-k.k - 1 in
     (meets (lent a.pattern.now) a.value (a.pattern.now.m - k) ≡ true)
     ↔ (bit_and (bit_xor (a.value % ((1 * 2 ^ k) % 2 ^ 32)) (c.byte_at-first.result / 2 ^ (8 - k))) (c.byte_at-care.result / 2 ^ (8 - k)) ≡ 0)
 tested c =
     let a = c.args in
-    let k = c.loop-k.k in
+    let k = c.loop-k.k - 1 in
     let enough = long_enough _ c.requires.good_pattern in
-    let few = c.loop-k.invariant.0 in
     shown_first (lent a.pattern.now) a.value k _ _ _ (omega arith) (omega arith)
     (ap (λ (x : ℕ). a.value % x) (one_shl k (omega arith))) (ap (λ (x : ℕ). x / 2 ^ (8 - k)) c.byte_at-first.ensures)
     (ap (λ (x : ℕ). x / 2 ^ (8 - k)) c.byte_at-care.ensures)
-
-pub loop-k-init : goal.loop-k-init
-loop-k-init c = (omega arith, c.requires.by_index)
-
-pub nonzero_rem-value : goal.nonzero_rem-value
-nonzero_rem-value c = rw (one_shl c.loop-k.k (omega arith)) (pow_pos c.loop-k.k)
-
-pub overflow_sub-result : goal.overflow_sub-result
-overflow_sub-result c = omega (arith, long_enough _ c.requires.good_pattern)
 
 pub loop-k-preserved : goal.loop-k-preserved
 loop-k-preserved c =
     let a = c.args in
     let l = c.loop-k in
     let enough = long_enough _ c.requires.good_pattern in
-    let up : a.pattern.now.m - (l.k - 1) ≡ a.pattern.now.m - l.k + 1 = omega arith in (
-      omega arith,
-      rw up (none_more (lent a.pattern.now) a.value (a.pattern.now.m - l.k) l.invariant.1 (λ e. c.if-value-k-eq0.false ((tested (goal.at.loop-k-preserved c).In-loop-k).0 e))),
-    )
+    let up : a.pattern.now.m - (l.k - 1 - 1) ≡ a.pattern.now.m - (l.k - 1) + 1 = omega arith in
+    rw up (none_more (lent a.pattern.now) a.value (a.pattern.now.m - (l.k - 1)) l.invariant (λ e. c.if-value-k-eq0.false ((tested (goal.at.loop-k-preserved c).In-loop-k).0 e)))
 
 pub returns-then-value-k-eq0 : goal.returns-then-value-k-eq0
 returns-then-value-k-eq0 c =
     let a = c.args in
     let l = c.loop-k in
-    hash_is (lent a.pattern.now) a.value (a.pattern.now.m - l.k) l.invariant.1 ((tested (goal.at.returns-then-value-k-eq0 c).In-loop-k).1 c.if-value-k-eq0.true)
+    hash_is (lent a.pattern.now) a.value (a.pattern.now.m - (l.k - 1)) l.invariant ((tested (goal.at.returns-then-value-k-eq0 c).In-loop-k).1 c.if-value-k-eq0.true)
 
 pub returns : goal.returns
 returns c =
     let a = c.args in
     let l = c.loop-k in
-    let all : a.pattern.now.m - l.k ≡ a.pattern.now.m = omega arith in
-    hash_last (lent a.pattern.now) a.value a.pattern.now.m refl (rw all at l.invariant.1)
+    let all : a.pattern.now.m - (l.k - 1) ≡ a.pattern.now.m = omega arith in
+    hash_last (lent a.pattern.now) a.value a.pattern.now.m refl (rw all at l.invariant)

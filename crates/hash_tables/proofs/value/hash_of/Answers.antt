@@ -5,7 +5,7 @@ use native.Mathlib.Omega.{arith}
 use lib.Bits.{bit_and, bit_xor}
 use Rattle.rules.specs.Hash.{meets}
 use Rattle.matcher.specs.Asked.{lent}
-use Rattle.hash_tables.proofs.HashValues.{long_enough, none_more, hash_is, shown_whole}
+use Rattle.hash_tables.proofs.HashValues.{none_more, hash_is, shown_whole}
 use Rattle.hash_tables.proofs.value.hash_of.Goals as goal
 use Rattle.hash_tables.proofs.value.hash_of.Goals.{After-byte_at-in-loop-d}
 
@@ -17,24 +17,22 @@ tested : (c : After-byte_at-in-loop-d)
 tested c =
     let a = c.args in
     rw (c.byte_at.ensures, c.byte_at-in-loop-d.ensures)
-    (shown_whole (lent a.pattern.now) a.value c.loop-d.d c.loop-d-test.true c.ranges.value.fits)
+    (shown_whole (lent a.pattern.now) a.value c.loop-d.d (omega arith) c.ranges.value.fits)
 
 pub loop-d-init : goal.loop-d-init
-loop-d-init c = (omega (arith, long_enough _ c.requires), λ e h. absurd (omega arith))
+loop-d-init c = λ e h. absurd (omega arith)
 
 pub loop-d-preserved : goal.loop-d-preserved
 loop-d-preserved c =
     let a = c.args in
-    let l = c.loop-d in (
-      omega arith,
-      none_more (lent a.pattern.now) a.value l.d l.invariant.1 (λ e. c.if-value-byte_at-eq0.false ((tested (goal.at.loop-d-preserved c).After-byte_at-in-loop-d).0 e)),
-    )
+    none_more (lent a.pattern.now) a.value c.loop-d.d c.loop-d.invariant
+    (λ e. c.if-value-byte_at-eq0.false ((tested (goal.at.loop-d-preserved c).After-byte_at-in-loop-d).0 e))
 
 pub returns-then-value-byte_at-eq0 : goal.returns-then-value-byte_at-eq0
 returns-then-value-byte_at-eq0 c =
     let a = c.args in
     let l = c.loop-d in
-    hash_is (lent a.pattern.now) a.value l.d l.invariant.1 ((tested (goal.at.returns-then-value-byte_at-eq0 c).After-byte_at-in-loop-d).1 c.if-value-byte_at-eq0.true)
+    hash_is (lent a.pattern.now) a.value l.d l.invariant ((tested (goal.at.returns-then-value-byte_at-eq0 c).After-byte_at-in-loop-d).1 c.if-value-byte_at-eq0.true)
 
 pub hash_by_first_bits-requires : goal.hash_by_first_bits-requires
-hash_by_first_bits-requires c = record { good_pattern = c.requires; by_index = λ e h. c.loop-d.invariant.1 e (omega arith) }
+hash_by_first_bits-requires c = record { good_pattern = c.requires; by_index = λ e h. c.loop-d.invariant e (omega arith) }

@@ -1,11 +1,7 @@
 -- `set_tables::scan::look` meets its contract. The loop's invariant: the places at the offsets below i have their flags.
 -- Assumes nothing.
-use Prim.Native.Nat.{◌-◌, ◌≤◌}
 use Rattle.set_tables.proofs.Scanning.{LookedTo}
 use Rattle.set_tables.proofs.scan.look.Given as goal
 
 abbrev pub invariant-loop-i : goal.invariant-loop-i
-invariant-loop-i l = (l.i ≤ 8) × LookedTo l.tables l.word l.initial.found l.found l.any l.i
-
-abbrev pub decreases-loop-i : goal.decreases-loop-i
-decreases-loop-i l = 8 - l.i
+invariant-loop-i l = LookedTo l.tables l.word l.initial.found l.found l.any l.i

@@ -5,6 +5,3 @@ use Rattle.set_tables.proofs.scan.marks.Given as goal
 
 abbrev pub invariant-loop-e : goal.invariant-loop-e
 invariant-loop-e l = MarkedFrom l.found l.e l.m
-
-abbrev pub decreases-loop-e : goal.decreases-loop-e
-decreases-loop-e l = l.e

@@ -4,13 +4,7 @@ use native.Mathlib.Omega.{arith}
 use Rattle.set_tables.proofs.Entering.{half_one}
 use Rattle.set_tables.proofs.tables.enter_four.Goals as goal
 
-pub returns-then-care-eq15 : goal.returns-then-care-eq15
-returns-then-care-eq15 c =
+pub returns-then-care-eq-ALL_FIXED : goal.returns-then-care-eq-ALL_FIXED
+returns-then-care-eq-ALL_FIXED c =
     let a = c.args in
-    half_one a.value a.care (omega arith) c.if-care-eq15.true a.at a.flag a.cells.now c.requires
-
-pub shape_of-cells-else-care-eq15 : goal.shape_of-cells-else-care-eq15
-shape_of-cells-else-care-eq15 c = c.enter_half.ensures.only.size
-
-pub returns-else-care-eq15 : goal.returns-else-care-eq15
-returns-else-care-eq15 c = c.enter_half.ensures
+    half_one a.value a.care (omega arith) c.if-care-eq-ALL_FIXED.true a.at a.flag a.cells.now c.requires
