@@ -4,8 +4,7 @@ use Rattle.bits.specs.Packed.{Packed}
 use Rattle.search.specs.declared.Stop.{Stop}
 use Rattle.search.specs.declared.Stop.TheVariants.{Done, Full, Spent}
 use Rattle.search.specs.Verdict.{Verdict, refused, accepted}
-use Rattle.set.specs.declared.Outcome.{Outcome}
-use Rattle.set.specs.declared.Outcome.TheVariants.{Accepted, Refused}
+use Rattle.std.specs.Prelude.{Ok, Err}
 use Rattle.set.specs.declared.Refusal.{Refusal}
 use Rattle.set.specs.declared.Refusal.TheVariants.{TextTooLong, TextBytesMissing, SetSize, PatternLength, PatternBytesMissing, FixedBytesMissing, BeyondEnd}
 use Rattle.set_rules.specs.PatternSet.{PatternSet}
@@ -145,14 +144,14 @@ refusal_seen k =
 abbrev pub outcome_seen : ℕ → List ℕ → Outcome
 outcome_seen result answer =
     cond (eqb result 0)
-    (Accepted
+    (Ok
     (record {
       steps = get_or answer 0 0;
       occurrences = get_or answer 1 0;
       mark = record { at = record { 0 = get_or answer 2 0 } };
       stop = stop_seen (get_or answer 2 0) (get_or answer 3 0);
     }))
-    (Refused (refusal_seen result))
+    (Err (refusal_seen result))
 
 -- a call from C as a call of the library
 abbrev pub call_seen : SetMade → library.Call

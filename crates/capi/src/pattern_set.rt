@@ -4,7 +4,6 @@ ghost use Rattle.capi.specs.PatternSet.{SetSearched};
 use crate::{ANSWER_CELLS_MISSING, cells, scan};
 use bits::Place;
 use search::Mark;
-use set::Outcome;
 
 // Lists the hits from the mark on: pairs of a place and the number of a pattern that stands there in the first n bits of the
 // text. Each pattern begins on the byte after the one before, in both runs.
@@ -26,20 +25,14 @@ pub extern "C" fn mitongory_search_set(
         return ANSWER_CELLS_MISSING;
     }
     let from = Mark { at: Place(mark) };
-    let outcome = set::search_set(from, text, n, patterns, fixed, counts, budget, list);
-    match outcome {
-        Outcome::Refused(why) => why.number(),
-        Outcome::Accepted(a) => {
-            let left = a.mark;
-            let at = left.at;
-            let stop = a.stop;
-            cells::four(
-                answer,
-                a.steps as u64,
-                a.occurrences,
-                at.0 as u64,
-                scan::stop_of(stop),
-            )
-        }
+    match set::search_set(from, text, n, patterns, fixed, counts, budget, list) {
+        Err(why) => why.number(),
+        Ok(a) => cells::four(
+            answer,
+            u64::from(a.steps),
+            a.occurrences,
+            u64::from(a.mark.at.0),
+            scan::stop_of(a.stop),
+        ),
     }
 }

@@ -42,9 +42,9 @@ fn tell(outcome: Result<Answer, Refusal>, answer: &mut [u64]) -> u32
         Err(why) => why.number(),
         Ok(a) => cells::four(
             answer,
-            a.steps as u64,
-            a.occurrences as u64,
-            a.mark.at.0 as u64,
+            u64::from(a.steps),
+            u64::from(a.occurrences),
+            u64::from(a.mark.at.0),
             stop_of(a.stop),
         ),
     }
@@ -97,7 +97,7 @@ pub extern "C" fn mitongory_hash_value(
     }
     match hash_value::hash_value(pattern, fixed, m, value) {
         Err(why) => why.number(),
-        Ok(d) => cells::one(answer, d as u64),
+        Ok(d) => cells::one(answer, u64::from(d)),
     }
 }
 

@@ -16,14 +16,14 @@ asked c =
 pub returns-then-answer-lt4 : goal.returns-then-answer-lt4
 returns-then-answer-lt4 c = set_short (asked (goal.at.returns-then-answer-lt4 c).Start) c.if-answer-lt4.true
 
-pub returns-in-Refused : goal.returns-in-Refused
-returns-in-Refused c =
-    let q = asked (goal.at.returns-in-Refused c).Start in
-    let made = rw c.in-Refused.is at c.search_set-outcome.ensures in
+pub returns-in-Err : goal.returns-in-Err
+returns-in-Err c =
+    let q = asked (goal.at.returns-in-Err c).Start in
+    let made = rw c.in-Err.is at c.search_set.ensures in
     set_refused q (omega arith) _ _ _ made c.number.ensures
 
-pub returns-in-Accepted : goal.returns-in-Accepted
-returns-in-Accepted c =
-    let q = asked (goal.at.returns-in-Accepted c).Start in
-    let made = rw c.in-Accepted.is at c.search_set-outcome.ensures in
+pub returns-in-Ok : goal.returns-in-Ok
+returns-in-Ok c =
+    let q = asked (goal.at.returns-in-Ok c).Start in
+    let made = rw c.in-Ok.is at c.search_set.ensures in
     set_accepted q (omega arith) _ _ _ _ made (rw c.stop_of.ensures at c.four.ensures)
