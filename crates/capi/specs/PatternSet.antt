@@ -5,6 +5,7 @@ use Rattle.search.specs.declared.Stop.{Stop}
 use Rattle.search.specs.declared.Stop.TheVariants.{Done, Full, Spent}
 use Rattle.search.specs.Verdict.{Verdict, refused, accepted}
 use Rattle.std.specs.Prelude.{Ok, Err}
+use Rattle.set.specs.Promise.{Outcome}
 use Rattle.set.specs.declared.Refusal.{Refusal}
 use Rattle.set.specs.declared.Refusal.TheVariants.{TextTooLong, TextBytesMissing, SetSize, PatternLength, PatternBytesMissing, FixedBytesMissing, BeyondEnd}
 use Rattle.set_rules.specs.PatternSet.{PatternSet}
