@@ -1,6 +1,7 @@
 -- The promise of the call for a set leaves nothing open: each request has an answer that meets it, and only one. And which numbers
 -- a refusal can have.
 -- Assumes nothing.
+use Rattle.std.specs.Prelude.{Ok, Err}
 use Prim.Native.Nat.{ℕ, zero, suc}
 use mathlib.Core.Path.{◌≡◌, refl, sym, ap, ◌∙◌}
 use mathlib.Core.Bool.{cond}
@@ -12,14 +13,12 @@ use Rattle.search.specs.Verdict.{Verdict, refused, accepted, judge}
 use Rattle.search.proofs.Verdict.{refused_not_accepted, Each, each_append, given, judge_accepted, accepted_judge}
 use Rattle.search.proofs.Answers.{stop_for, stop_back, ending_back}
 use Rattle.set.specs.declared.Answer.{Answer}
-use Rattle.set.specs.declared.Outcome.{Outcome}
-use Rattle.set.specs.declared.Outcome.TheVariants.{Accepted, Refused}
 use Rattle.set.specs.declared.Refusal.{Refusal}
 use Rattle.set.specs.declared.Refusal.TheVariants.{TextTooLong, TextBytesMissing, SetSize, PatternLength, PatternBytesMissing, FixedBytesMissing, BeyondEnd}
 use Rattle.set_rules.specs.PatternSet.{PatternSet}
 use Rattle.set_rules.specs.SetMachine.{SetRun}
 use Rattle.set_rules.specs.Verdict.{Request, rows_from, mark_beyond, rows, machine, verdict, list_after}
-use Rattle.set.specs.Promise.{number_of_refusal, Carries, Searched}
+use Rattle.set.specs.Promise.{Outcome, number_of_refusal, Carries, Searched}
 
 -- ---- the numbers that are given
 
@@ -85,18 +84,18 @@ pub record Same (o p : Outcome) (l m : List ℕ) : Type 0 where
   pub list : l ≡ m
 
 pub unique : (q : Request) (o p : Outcome) (l m : List ℕ) → Searched q o l → Searched q p m → Same o p l m
-unique q (Accepted a) (Accepted b) l m c d =
+unique q (Ok a) (Ok b) l m c d =
     record {
-      outcome = ap {B = Outcome} Accepted (carries_only a (machine q) c.answer ∙ sym (carries_only b (machine q) d.answer));
+      outcome = ap {B = Outcome} Ok (carries_only a (machine q) c.answer ∙ sym (carries_only b (machine q) d.answer));
       list = c.list_is ∙ sym d.list_is;
     }
-unique q (Accepted a) (Refused r) l m c d = absurd (refused_not_accepted (verdict q) _ _ d.verdict_is c.verdict_is)
-unique q (Refused r) (Accepted a) l m c d = absurd (refused_not_accepted (verdict q) _ _ c.verdict_is d.verdict_is)
-unique q (Refused r) (Refused t) l m c d =
+unique q (Ok a) (Err r) l m c d = absurd (refused_not_accepted (verdict q) _ _ d.verdict_is c.verdict_is)
+unique q (Err r) (Ok a) l m c d = absurd (refused_not_accepted (verdict q) _ _ c.verdict_is d.verdict_is)
+unique q (Err r) (Err t) l m c d =
     let first = c.verdict_is in
     let second = d.verdict_is in
     let same : number_of_refusal r ≡ number_of_refusal t = cc in
-    record { outcome = ap {B = Outcome} Refused (sym (refusal_back r) ∙ ap refusal_of same ∙ refusal_back t); list = c.list_is ∙ sym d.list_is }
+    record { outcome = ap {B = Outcome} Err (sym (refusal_back r) ∙ ap refusal_of same ∙ refusal_back t); list = c.list_is ∙ sym d.list_is }
 
 -- an answer for each request
 pub record Answered (q : Request) : Type 0 where
@@ -111,13 +110,13 @@ answered q = go (verdict q) refl
     go : (v : Verdict SetRun) → verdict q ≡ v → Answered q
     go (refused k) e =
         record {
-          outcome = Refused (refusal_of k);
+          outcome = Err (refusal_of k);
           list = q.list;
           searched = record { verdict_is = e ∙ ap {B = Verdict SetRun} refused (sym (numbered q k e)); list_is = refl };
         }
     go (accepted r) e =
         record {
-          outcome = Accepted (answer_for (machine q));
+          outcome = Ok (answer_for (machine q));
           list = list_after (machine q) q.list;
           searched =
               record {

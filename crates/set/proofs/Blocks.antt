@@ -48,8 +48,8 @@ pub record Blocking (t : Packed) (ws : PatternSet) (marks base origin to : ℕ) 
   pub upto : base + next ≤ to
   pub listing : Listing t ws origin before had list (base + next) hits
 
-module _ (t : Packed) (ws : PatternSet) (rows : List ℕ) (until long : ℕ) (found : List ℕ) (base from to : ℕ)
-    (block : Blocked t ws rows until long found base from to) (marks : ℕ) (marked : Marked found marks) where
+module _ (t : Packed) (ws : PatternSet) (found : List ℕ) (base from to : ℕ)
+    (block : Blocked t ws found base from to) (marks : ℕ) (marked : Marked found marks) where
   -- no pattern stands at a place without a mark
   quiet : (e : ℕ) → e < 32 → weight marks e ≡ 0 → standing t ws (base + e) ≡ []
   quiet e l u = no_flag t ws (base + e) (get_or found e 0) (block.flags e l) (marked.unset e l u)

@@ -1,6 +1,7 @@
 -- What is true of every list of calls for a set that each meet the call's promise, the first from mark 0 and each from the mark
 -- that the one before left.
 -- Assumes nothing.
+use Rattle.std.specs.Prelude.{Ok, Err}
 use Prim.Native.Nat.{ℕ, ◌≤◌}
 use mathlib.Core.Path.{◌≡◌, refl, sym, ap, ◌∙◌}
 use mathlib.Core.Logic.{◌↔◌}
@@ -14,13 +15,11 @@ use Rattle.search.specs.Verdict.{refused, accepted}
 use Rattle.search.specs.Calls.{Result}
 use Rattle.search.proofs.Verdict.{judge_accepted}
 use Rattle.search.proofs.Passed.{Passed, none_passed, one_passed, both_passed, InBudget, none_spent, each_of}
-use Rattle.set.specs.declared.Outcome.{Outcome}
-use Rattle.set.specs.declared.Outcome.TheVariants.{Accepted, Refused}
 use Rattle.set_rules.specs.PatternSet.{PatternSet, set_places}
 use Rattle.set_rules.specs.Hits.{all_hits}
 use Rattle.set_rules.specs.SetMachine.{SetLeft}
 use Rattle.set_rules.specs.Verdict.{Request, rows, room_in, machine, verdict}
-use Rattle.set.specs.Promise.{number_of_refusal, Searched}
+use Rattle.set.specs.Promise.{Outcome, number_of_refusal, Searched}
 use Rattle.set.specs.Calls.{request_of, Call, mark_of, pairs_in, steps_of, stop_of, Made, answer_of, result_of, results, result_by, machine_results, last_mark, joined, all_steps, last_stop, NoneFits, Whole}
 use Rattle.set_rules.proofs.Hits.{all_append, all_none, all_order, all_exactly, pairs_cells, places_below, places_least}
 use Rattle.set_rules.proofs.SetMachine.{left}
@@ -36,7 +35,7 @@ accepted_left q h =
 -- One call, refused or accepted.
 one : (q : Request) (o : Outcome) (list : List ℕ) → q.mark ≤ set_places q.text q.patterns → Searched q o list
     → Passed (all_hits q.text q.patterns) (set_places q.text q.patterns) q.mark (pairs_in o list) (steps_of o) (stop_of o) (mark_of q.mark o)
-one q (Accepted a) list h c =
+one q (Ok a) list h c =
     let l = accepted_left q c.verdict_is in
     let is = c.answer in
     one_passed _ _ q.mark _ _ _ _
@@ -45,17 +44,17 @@ one q (Accepted a) list h c =
     (omega (arith, l.high, is.mark))
     (λ d. is.mark ∙ l.done_iff.0 (sym is.ending ∙ d), λ m. is.ending ∙ l.done_iff.1 (sym is.mark ∙ m))
     (omega (arith, l.moved, is.steps, is.mark))
-one q (Refused r) list h c = none_passed _ _ q.mark (all_none q.text q.patterns q.mark) h
+one q (Err r) list h c = none_passed _ _ q.mark (all_none q.text q.patterns q.mark) h
 
 kept : (q : Request) (o : Outcome) (list : List ℕ) → Searched q o list → InBudget q.budget (steps_of o) (stop_of o)
-kept q (Accepted a) list c =
+kept q (Ok a) list c =
     let l = accepted_left q c.verdict_is in
     let is = c.answer in
     record {
       spent_all = λ e. is.steps ∙ l.spent_all (sym is.ending ∙ some-injective _ _ e);
       within = omega (arith, l.within, is.steps);
     }
-kept q (Refused r) list c = none_spent q.budget
+kept q (Err r) list c = none_spent q.budget
 
 -- The same of a list of calls from the mark s.
 from : (t : Packed) (ws : PatternSet) (calls : List Call) (s : ℕ) → s ≤ set_places t ws → Made t ws s calls
@@ -80,14 +79,14 @@ result_is : (q : Request) (c : Call) → Searched q c.outcome c.list_after → r
 result_is q c h = go c.outcome h
   where
     go : (o : Outcome) → Searched q o c.list_after → record { answer = answer_of o; list = c.list_after; mark = mark_of q.mark o } ≡ result_by q (verdict q)
-    go (Accepted a) h =
+    go (Ok a) h =
         let is = h.answer in
         rw h.verdict_is (λ i. record {
           answer = accepted (record { steps = is.steps i; occurrences = is.occurrences i; mark = is.mark i; ending = is.ending i });
           list = h.list_is i;
           mark = is.mark i;
         })
-    go (Refused r) h =
+    go (Err r) h =
         rw h.verdict_is (λ i. record { answer = refused (number_of_refusal r); list = h.list_is i; mark = q.mark })
 
 results_from : (t : Packed) (ws : PatternSet) (calls : List Call) (s : ℕ) → Made t ws s calls

@@ -25,7 +25,8 @@ use Rattle.matcher.proofs.Writing.{writing_none, writing_more}
 use Rattle.set_rules.specs.PatternSet.{PatternSet, pattern_at}
 use Rattle.set_rules.specs.Hits.{standing}
 use Rattle.set_tables.specs.Fronts.{begins, Flags}
-use Rattle.set.specs.Parts.{Lengths, Listed}
+use Rattle.set.specs.Lengths.{Lengths}
+use Rattle.set.specs.Parts.{Listed}
 use Rattle.set.proofs.Standing.{stands_short, unset, set_begins}
 
 -- Flags listed lowest first

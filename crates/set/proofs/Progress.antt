@@ -1,5 +1,6 @@
 -- An accepted call with a step to make and room for the hits at the mark moves it; without that room it stays.
 -- Assumes nothing.
+use Rattle.std.specs.Prelude.{Ok}
 use Prim.Native.Nat.{ℕ, zero, suc, ◌≤◌, ◌<◌}
 use mathlib.Core.Path.{◌≡◌, refl, sym, ap, ◌∙◌}
 use mathlib.Core.Logic.{◌⊎◌, inl, inr}
@@ -10,7 +11,6 @@ use Rattle.rules.specs.Machine.{Ending, done, spent, full}
 use Rattle.rules.specs.Occurrence.{occurs}
 use Rattle.rules.proofs.Ranges.{eq_or_below, among_length}
 use Rattle.set.specs.declared.Answer.{Answer}
-use Rattle.set.specs.declared.Outcome.TheVariants.{Accepted}
 use Rattle.set_rules.specs.PatternSet.{pattern_at, set_places}
 use Rattle.set_rules.specs.Hits.{standing, hits_at}
 use Rattle.set_rules.specs.SetMachine.{SetRun, no_room}
@@ -26,7 +26,7 @@ hits_few : (q : Request) → length (hits_at q.text q.patterns q.mark) ≤ lengt
 unfolding standing
 hits_few q = omega (arith, length_at q.text q.patterns q.mark, among_length (λ i. occurs q.text (pattern_at q.patterns i) q.mark) 0 (length q.patterns.counts))
 
-module _ (q : Request) (a : Answer) (list : List ℕ) (made : Searched q (Accepted a) list) where
+module _ (q : Request) (a : Answer) (list : List ℕ) (made : Searched q (Ok a) list) where
   moves : q.mark < set_places q.text q.patterns → 0 < q.budget → length (hits_at q.text q.patterns q.mark) ≤ room_in q.list
       → q.mark < (machine q).mark
   moves inside some room = go (machine q).ending refl

@@ -1,25 +1,29 @@
 -- The loops of a call: the hits of the places passed stand in the list; and what they leave at their ends is what the machine
 -- comes to.
 -- Assumes nothing.
-use Prim.Native.Nat.{ℕ, suc, ◌+◌, ◌-◌, ◌*◌, ◌≤◌, ◌<◌, min}
+use Rattle.std.specs.Prelude.{Result, Ok, Err}
+use Prim.Native.Nat.{ℕ, suc, ◌+◌, ◌-◌, ◌*◌, ◌/◌, ◌≤◌, ◌<◌, min}
 use mathlib.Core.Path.{◌≡◌, refl, sym, ap, ◌∙◌}
 use mathlib.Core.Bool.{Bool, true, false}
 use mathlib.Core.List.{List, [], ◌++◌, map, append-nil}
 use native.Mathlib.Nat.{add-zero, zero-add}
 use native.Mathlib.Omega.{arith}
-use lib.ListN.{length, take, drop, length-append}
+use lib.ListN.{length, take, drop, length-append, length-take, length-drop, length-map}
 use lib.Seq.{sets, sets-eq, length-sets, take_at}
 use Rattle.bits.specs.Packed.{Packed}
 use Rattle.rules.specs.Machine.{stopped}
 use Rattle.search.specs.Parts.{ending_at}
 use Rattle.matcher.specs.Progress.{Writing}
+use Rattle.matcher.specs.declared.steps.Reached.{Reached}
+use Rattle.matcher.specs.declared.steps.Full.{Full}
 use Rattle.matcher.proofs.Writing.{sets_append}
+use Rattle.matcher.proofs.Rest.{rest_of, with_rest, writing_rest}
 use Rattle.set.specs.declared.Answer.{Answer}
 use Rattle.set_rules.specs.PatternSet.{PatternSet, set_places}
 use Rattle.set_rules.specs.Hits.{Hit, hit_at, standing, hits_at, all_hits, cells_of}
 use Rattle.set_rules.specs.SetMachine.{SetRun, halted, no_room, onward, set_run}
 use Rattle.set_rules.specs.Verdict.{room_in, list_after}
-use Rattle.set.specs.Parts.{PairsWritten, Listing, Ran, Tells, Leaves}
+use Rattle.set.specs.Parts.{PairsWritten, Listing, Ran, RunGives, Tells, TellsOf, Leaves}
 use Rattle.set_rules.proofs.Hits.{all_append, all_none, all_one, all_further, length_at}
 use Rattle.set_rules.proofs.SetMachine.{run_to_limit, run_to_full}
 use Rattle.set.proofs.Standing.{cells_append, cells_length}
@@ -82,6 +86,36 @@ module _ (t : Packed) (ws : PatternSet) (s : ℕ) (before : List ℕ) (had : ℕ
         fits = omega (arith, g.fits, listing_length);
       }))
 
+-- ---- what is left of a list
+
+module _ (list : List ℕ) (had : ℕ) (l : 2 * had ≤ length list) where
+  pub rest_size : length (rest_of list (2 * had) l) ≡ length list - 2 * had
+  rest_size = omega (arith, length-take (length list - 2 * had) (drop (2 * had) list), length-drop (2 * had) list)
+
+  -- pairs that are written to the rest of the list are written to the list
+  cells_rest : (found : List Hit) (new : List ℕ) → 2 * length found ≤ length list - 2 * had → new ≡ sets (rest_of list (2 * had) l) 0 (cells_of found)
+      → with_rest list (2 * had) l new ≡ sets list (2 * had) (cells_of found)
+  cells_rest found new few e =
+      (writing_rest list (2 * had) l (cells_of found) new (length (cells_of found))
+      (record { cells = e; count = omega arith; fits = omega (arith, few, cells_length found, rest_size) })).cells
+
+  pub pairs_rest : (s : ℕ) (numbers new : List ℕ) → 2 * length numbers ≤ length list - 2 * had
+      → PairsWritten (rest_of list (2 * had) l) 0 s numbers new → PairsWritten list had s numbers (with_rest list (2 * had) l new)
+  pairs_rest s numbers new few e =
+      cells_rest (map (hit_at s) numbers) new (omega (arith, few, length-map numbers (hit_at s))) e
+
+  pub listing_rest : (t : Packed) (ws : PatternSet) (s at hits : ℕ) (new : List ℕ) → Listing t ws s (rest_of list (2 * had) l) 0 new at hits
+      → Listing t ws s list had (with_rest list (2 * had) l new) at (had + hits)
+  listing_rest t ws s at hits new g =
+      let size = rest_size in
+      let room : hits ≤ (length list - 2 * had) / 2 = omega (arith, g.fits, rest_size) in
+      record {
+        from = g.from;
+        cells = cells_rest (all_hits t ws s at) new (omega (arith, g.count, room)) g.cells;
+        count = omega (arith, g.count);
+        fits = omega (arith, room);
+      }
+
 -- ---- the ends
 
 module _ (t : Packed) (ws : PatternSet) (s budget : ℕ) (before : List ℕ) where
@@ -133,10 +167,16 @@ module _ (t : Packed) (ws : PatternSet) (s budget : ℕ) (before : List ℕ) whe
         (rw append-nil front_is)
 
   -- the answer tells what the steps left
-  pub leaves_run : (a : Answer) (at steps hits : ℕ) (cut : Bool) (list : List ℕ) → Ran t ws s budget before at steps hits cut list
+  leaves_run : (a : Answer) (at steps hits : ℕ) (cut : Bool) (list : List ℕ) → Ran t ws s budget before at steps hits cut list
       → Tells a at steps hits cut (set_places t ws) → Leaves t ws s budget before a list
   leaves_run a at steps hits cut list r k =
       record {
         answer = record { steps = k.steps_are ∙ r.steps_are; occurrences = k.hits_are ∙ r.hits_are; mark = k.mark_is ∙ r.mark_is; ending = k.ending_is ∙ r.ending_is };
         list_is = r.list_is;
       }
+
+  -- the same of what the loop gave back
+  pub leaves_of : (a : Answer) (r : Result Reached Full) (list : List ℕ) → RunGives t ws s budget before r list
+      → TellsOf a r (set_places t ws) → Leaves t ws s budget before a list
+  leaves_of a (Ok r) list ran tells = leaves_run a r.at.0 r.steps r.hits false list ran tells
+  leaves_of a (Err f) list ran tells = leaves_run a f.0.at.0 f.0.steps f.0.hits true list ran tells

@@ -1,6 +1,7 @@
 -- A set of one pattern and the plain search for that pattern do the same: turn by turn of the two machines, and row by row of the
 -- two tables of refusals.
 -- Assumes nothing.
+use Rattle.std.specs.Prelude.{Ok, Err}
 use Prim.Native.Nat.{ℕ, zero, suc, ◌+◌, ◌-◌, ◌/◌, ◌%◌, ◌≤◌, ◌<◌}
 use mathlib.Core.Path.{◌≡◌, refl, sym, ap, ◌∙◌}
 use mathlib.Core.Bool.{Bool, true, false}
@@ -20,18 +21,14 @@ use Rattle.rules.specs.Step.{finds, ahead, next}
 use Rattle.rules.specs.Machine.{Run, stopped, cut, after, run}
 use Rattle.rules.proofs.Plain.{rows_occur}
 use Rattle.rules.proofs.Machine as machine_laws
-use Rattle.search.specs.declared.Outcome as plain_outcome
-use Rattle.search.specs.declared.Outcome.TheVariants as plain
 use Rattle.search.specs.Verdict as search
 use Rattle.search.specs.Verdict.{Row, refused, accepted, judge, text_too_long, text_bytes_missing, pattern_length, pattern_bytes_missing, fixed_bytes_missing}
 use Rattle.search.proofs.Verdict.{judge_accepted, accepted_judge}
-use Rattle.set.specs.declared.Outcome.{Outcome}
-use Rattle.set.specs.declared.Outcome.TheVariants.{Accepted, Refused}
 use Rattle.set_rules.specs.PatternSet.{PatternSet, start_of, pattern_at, largest, set_places}
 use Rattle.set_rules.specs.Hits.{hit_at, standing, hits_at}
 use Rattle.set_rules.specs.SetMachine.{SetRun, halted, no_room, onward, set_run}
 use Rattle.set_rules.specs.Verdict.{Request, rows_from, rows, machine, verdict}
-use Rattle.set.specs.Promise.{number_of_refusal, Searched}
+use Rattle.set.specs.Promise.{Outcome, number_of_refusal, Searched}
 use Rattle.set.specs.Single.{OnePattern, with_zero, OneMachine, SameAsked, SameOutcome, Single}
 use Rattle.set_rules.proofs.Hits.{pairs_cells}
 use Rattle.set_rules.proofs.SetMachine.{run_spent, run_ended, run_step, run_full}
@@ -184,9 +181,9 @@ module _ (q : Request) (p : search.Request) (same : SameAsked q p) where
   plain_verdict = plain_rows (search.machine p) q p same
 
   -- where no row holds both are accepted, and the row that refuses one refuses the other
-  one_call : (o : Outcome) (list : List ℕ) (u : plain_outcome.Outcome) (found scratch : List ℕ)
+  one_call : (o : Outcome) (list : List ℕ) (u : search.Outcome) (found scratch : List ℕ)
       → Searched q o list → search.Searched p u found scratch → SameOutcome o list u found
-  one_call (Accepted a) list (plain.Accepted b) found scratch c d =
+  one_call (Ok a) list (Ok b) found scratch c d =
       let is = machines q p same in
       let written_is : (machine q).written ≡ with_zero (search.machine p).written = ap (λ (r : SetRun). r.written) is in
       let x = c.answer in
@@ -205,19 +202,19 @@ module _ (q : Request) (p : search.Request) (same : SameAsked q p) where
             ∙ written_is
             ∙ ap with_zero (sym found_are);
       }
-  one_call (Accepted a) list (plain.Refused r) found scratch c d =
+  one_call (Ok a) list (Err r) found scratch c d =
       let fail = (judge_accepted (machine q) table (machine q) (sym set_verdict ∙ c.verdict_is)).0 in
       let e : judge table (search.machine p) ≡ accepted (search.machine p) = accepted_judge (search.machine p) table fail in
       let f : judge table (search.machine p) ≡ refused (search.number_of_refusal r) = sym plain_verdict ∙ d.verdict_is in
       let z : ◌≡◌ {A = ℕ} 0 1 = cc in
       omega arith
-  one_call (Refused r) list (plain.Accepted b) found scratch c d =
+  one_call (Err r) list (Ok b) found scratch c d =
       let fail = (judge_accepted (search.machine p) table (search.machine p) (sym plain_verdict ∙ d.verdict_is)).0 in
       let e : judge table (machine q) ≡ accepted (machine q) = accepted_judge (machine q) table fail in
       let f : judge table (machine q) ≡ refused (number_of_refusal r) = sym set_verdict ∙ c.verdict_is in
       let z : ◌≡◌ {A = ℕ} 0 1 = cc in
       omega arith
-  one_call (Refused r) list (plain.Refused k) found scratch c d =
+  one_call (Err r) list (Err k) found scratch c d =
       let e : judge table (search.machine p) ≡ refused (number_of_refusal r) =
       judge_again (machine q) (search.machine p) table (number_of_refusal r) (sym set_verdict ∙ c.verdict_is) in
       let f : judge table (search.machine p) ≡ refused (search.number_of_refusal k) = sym plain_verdict ∙ d.verdict_is in

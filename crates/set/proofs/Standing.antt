@@ -247,10 +247,10 @@ cells_length [] = refl
 cells_length (h ∷ l) = omega (arith, cells_length l)
 
 -- one pair more
-pub pair_more : (before : List ℕ) (had s : ℕ) (numbers list : List ℕ) (j : ℕ) → j < length numbers → PairsWritten before had s (take j numbers) list
-    → PairsWritten before had s (take (j + 1) numbers) (set (set list (2 * (had + j)) s) (2 * (had + j) + 1) (get_or numbers j 0))
+pub pair_more : (before : List ℕ) (s : ℕ) (numbers list : List ℕ) (j : ℕ) → j < length numbers → PairsWritten before 0 s (take j numbers) list
+    → PairsWritten before 0 s (take (j + 1) numbers) (set (set list (2 * j) s) (2 * j + 1) (get_or numbers j 0))
 unfolding cells_of
-pair_more before had s numbers list j l e =
+pair_more before s numbers list j l e =
     let done : List ℕ = cells_of (map (hit_at s) (take j numbers)) in
     let size : length done ≡ 2 * j
     = cells_length (map (hit_at s) (take j numbers)) ∙ ap (λ (n : ℕ). 2 * n) (length-map (take j numbers) (hit_at s) ∙ length-take j numbers ∙ omega arith) in
@@ -258,8 +258,8 @@ pair_more before had s numbers list j l e =
     = ap (λ (l : List ℕ). cells_of (map (hit_at s) l)) (ap (λ (n : ℕ). take n numbers) (add-one j) ∙ take-suc numbers j 0 l)
     ∙ ap cells_of (map-append (hit_at s) (take j numbers) (get_or numbers j 0 ∷ []))
     ∙ cells_append (map (hit_at s) (take j numbers)) _ in
-    let first : 2 * (had + j) ≡ 2 * had + length done = omega arith in
-    let second : 2 * (had + j) + 1 ≡ suc (2 * had + length done) = omega arith in
+    let first : 2 * j ≡ 0 + length done = omega arith in
+    let second : 2 * j + 1 ≡ suc (0 + length done) = omega arith in
     ap₂ (λ (a b : ℕ). set (set list a s) b (get_or numbers j 0)) first second
-    ∙ ap (λ (l : List ℕ). set (set l (2 * had + length done) s) (suc (2 * had + length done)) (get_or numbers j 0)) e
-    ∙ sym (ap (sets before (2 * had)) more ∙ sets_append before (2 * had) done (s ∷ get_or numbers j 0 ∷ []))
+    ∙ ap (λ (l : List ℕ). set (set l (0 + length done) s) (suc (0 + length done)) (get_or numbers j 0)) e
+    ∙ sym (ap (sets before 0) more ∙ sets_append before 0 done (s ∷ get_or numbers j 0 ∷ []))

@@ -1,19 +1,17 @@
 -- A list of calls for one set on one text, each going on from the mark that the call before it left; and the one claim about
 -- every such list.
-use Rattle.std.specs.Prelude.{ℕ, ◌+◌, ◌≤◌, ◌<◌, ◌≡◌, ◌↔◌, length, get_or}
+use Rattle.std.specs.Prelude.{ℕ, ◌+◌, ◌≤◌, ◌<◌, ◌≡◌, ◌↔◌, length, get_or, Ok, Err}
 use mathlib.Core.List.{List, [], ◌∷◌, ◌++◌, map, Memᴰ}
 use Rattle.std.proofs.Math.Option.{Option, none, some}
 use Rattle.bits.specs.Packed.{Packed}
 use Rattle.rules.specs.Machine.{Ending, done, spent}
 use Rattle.search.specs.Verdict.{Verdict, refused, accepted, ending_of}
 use Rattle.search.specs.Calls.{Carried, Result, later}
-use Rattle.set.specs.declared.Outcome.{Outcome}
-use Rattle.set.specs.declared.Outcome.TheVariants.{Accepted, Refused}
 use Rattle.set_rules.specs.PatternSet.{PatternSet}
 use Rattle.set_rules.specs.Hits.{Hit, IsHit, InOrder, all_hits, pairs_of}
 use Rattle.set_rules.specs.SetMachine.{SetRun}
 use Rattle.set_rules.specs.Verdict.{Request, verdict, list_after}
-use Rattle.set.specs.Promise.{number_of_refusal, Searched}
+use Rattle.set.specs.Promise.{Outcome, number_of_refusal, Searched}
 
 -- what a call is asked beside text, set and mark
 pub record Asked : Type 0 where
@@ -31,23 +29,23 @@ pub record Call : Type 0 where
 
 -- the mark that a call leaves; a refused one leaves the mark that it got
 abbrev pub mark_of : ℕ → Outcome → ℕ
-mark_of s (Accepted a) = a.mark.at.0
-mark_of s (Refused r) = s
+mark_of s (Ok a) = a.mark.at.0
+mark_of s (Err r) = s
 
 -- the pairs that a call wrote: the first cells of its list as they stand when it returns, two for each hit in its answer
 abbrev pub pairs_in : Outcome → List ℕ → List Hit
-pairs_in (Accepted a) list = pairs_of a.occurrences list
-pairs_in (Refused r) list = []
+pairs_in (Ok a) list = pairs_of a.occurrences list
+pairs_in (Err r) list = []
 
 -- a refused call made no step
 abbrev pub steps_of : Outcome → ℕ
-steps_of (Accepted a) = a.steps
-steps_of (Refused r) = 0
+steps_of (Ok a) = a.steps
+steps_of (Err r) = 0
 
 -- how an accepted call stopped
 abbrev pub stop_of : Outcome → Option Ending
-stop_of (Accepted a) = some (ending_of a.stop)
-stop_of (Refused r) = none
+stop_of (Ok a) = some (ending_of a.stop)
+stop_of (Err r) = none
 
 -- Each call meets the very promise of the call, at the mark that the call before it left, the first at s.
 abbrev pub Made : Packed → PatternSet → ℕ → List Call → Type 0
@@ -56,9 +54,9 @@ Made t ws s (c ∷ cs) = Searched (request_of t ws s c.asked) c.outcome c.list_a
 
 -- What a call gives: its answer or the number of its refusal, its list, and the mark for the next call.
 abbrev pub answer_of : Outcome → Verdict Carried
-answer_of (Accepted a) =
+answer_of (Ok a) =
     accepted (record { steps = a.steps; occurrences = a.occurrences; mark = a.mark.at.0; ending = ending_of a.stop })
-answer_of (Refused r) = refused (number_of_refusal r)
+answer_of (Err r) = refused (number_of_refusal r)
 
 abbrev pub result_of : ℕ → Call → Result
 result_of s c = record { answer = answer_of c.outcome; list = c.list_after; mark = mark_of s c.outcome }

@@ -5,4 +5,5 @@ pub mod Promise
 pub mod Calls
 pub mod Single
 pub mod Progress
+pub mod Lengths
 pub mod Parts

@@ -1,13 +1,15 @@
 -- What the call for a set promises of its answer and of the list as it returns.
-use Rattle.std.specs.Prelude.{ℕ, ◌≡◌, List, length}
+use Rattle.std.specs.Prelude.{ℕ, ◌≡◌, List, length, Result, Ok, Err}
 use Rattle.search.specs.Verdict.{refused, accepted, ending_of}
 use Rattle.set_rules.specs.SetMachine.{SetRun}
 use Rattle.set_rules.specs.Verdict.{Request, machine, verdict, list_after}
 use Rattle.set.specs.declared.Answer.{Answer}
-use Rattle.set.specs.declared.Outcome.{Outcome}
-use Rattle.set.specs.declared.Outcome.TheVariants.{Accepted, Refused}
 use Rattle.set.specs.declared.Refusal.{Refusal}
 use Rattle.set.specs.declared.Refusal.TheVariants.{TextTooLong, TextBytesMissing, SetSize, PatternLength, PatternBytesMissing, FixedBytesMissing, BeyondEnd}
+
+-- What a call gives back: the answer, or why it was refused.
+abbrev pub Outcome : Type 0
+Outcome = Result Answer Refusal
 
 -- the number of each refusal
 abbrev pub number_of_refusal : Refusal → ℕ
@@ -39,5 +41,5 @@ pub record RefusedAs (q : Request) (r : Refusal) (list : List ℕ) : Type 0 wher
 
 -- The promise.
 abbrev pub Searched : Request → Outcome → List ℕ → Type 0
-Searched q (Accepted a) list = AcceptedAs q a list
-Searched q (Refused r) list = RefusedAs q r list
+Searched q (Ok a) list = AcceptedAs q a list
+Searched q (Err r) list = RefusedAs q r list

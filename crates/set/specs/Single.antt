@@ -1,24 +1,20 @@
 -- A set of one pattern and the plain search for that pattern (document 02): "With one word the places equal the plain method's
 -- from the same mark with the same budget, enough scratch lent, on half as many cells, rounded down." It is said of the two
 -- machines, and of any two calls that meet their promises.
-use Rattle.std.specs.Prelude.{ℕ, ◌/◌, ◌≤◌, ◌≡◌, List, map, length, get_or, take}
+use Rattle.std.specs.Prelude.{ℕ, ◌/◌, ◌≤◌, ◌≡◌, List, map, length, get_or, take, Ok, Err}
 use Rattle.bits.specs.Packed.{Packed}
 use Rattle.rules.specs.declared.Method.TheVariants.{Plain}
 use Rattle.rules.specs.Scratch.{scratch_cells}
 use Rattle.rules.specs.Machine.{run}
 use Rattle.search.specs.declared.Answer as plain_answer
-use Rattle.search.specs.declared.Outcome as plain_outcome
-use Rattle.search.specs.declared.Outcome.TheVariants as plain
 use Rattle.search.specs.Verdict as search
 use Rattle.search.specs.Verdict.{ending_of}
 use Rattle.set.specs.declared.Answer.{Answer}
-use Rattle.set.specs.declared.Outcome.{Outcome}
-use Rattle.set.specs.declared.Outcome.TheVariants.{Accepted, Refused}
 use Rattle.set_rules.specs.PatternSet.{PatternSet, pattern_at}
 use Rattle.set_rules.specs.Hits.{Hit, hit_at, pairs_of}
 use Rattle.set_rules.specs.SetMachine.{set_run}
 use Rattle.set_rules.specs.Verdict.{Request}
-use Rattle.set.specs.Promise.{number_of_refusal, Searched}
+use Rattle.set.specs.Promise.{Outcome, number_of_refusal, Searched}
 
 -- "With one word"
 abbrev pub OnePattern : PatternSet → Type 0
@@ -60,16 +56,16 @@ pub record SameAnswer (a : Answer) (list : List ℕ) (b : plain_answer.Answer) (
   pub pairs : pairs_of a.occurrences list ≡ with_zero (take b.occurrences found)
 
 -- both are accepted with the same answer and the same places, or both are refused with the same number
-abbrev pub SameOutcome : Outcome → List ℕ → plain_outcome.Outcome → List ℕ → Type 0
-SameOutcome (Accepted a) list (plain.Accepted b) found = SameAnswer a list b found
-SameOutcome (Accepted a) list (plain.Refused r) found = ⊥
-SameOutcome (Refused r) list (plain.Accepted b) found = ⊥
-SameOutcome (Refused r) list (plain.Refused k) found = number_of_refusal r ≡ search.number_of_refusal k
+abbrev pub SameOutcome : Outcome → List ℕ → search.Outcome → List ℕ → Type 0
+SameOutcome (Ok a) list (Ok b) found = SameAnswer a list b found
+SameOutcome (Ok a) list (Err r) found = ⊥
+SameOutcome (Err r) list (Ok b) found = ⊥
+SameOutcome (Err r) list (Err k) found = number_of_refusal r ≡ search.number_of_refusal k
 
 -- The claim, of the two machines, and of any two calls that each meet the promise of their own function.
 pub record Single : Type 0 where
   pub machines : (t : Packed) (ws : PatternSet) → OnePattern ws → (budget s room : ℕ) → OneMachine t ws budget s room
   pub calls : (q : Request) (p : search.Request) → SameAsked q p
       → (o : Outcome) (list : List ℕ) → Searched q o list
-      → (u : plain_outcome.Outcome) (found scratch : List ℕ) → search.Searched p u found scratch
+      → (u : search.Outcome) (found scratch : List ℕ) → search.Searched p u found scratch
       → SameOutcome o list u found

@@ -9,6 +9,7 @@
 
 mod call;
 mod check;
+mod finder;
 mod step;
 
 ghost use Rattle.std.specs.Prelude.{◌≡◌};
@@ -16,11 +17,11 @@ ghost use Rattle.matcher.specs.Ready.{text_of};
 ghost use Rattle.set_tables.specs.Parts.{set_of};
 ghost use Rattle.set.specs.Promise.{number_of_refusal, Searched};
 
-use check::Checked;
 use search::{Mark, Stop};
+use set_tables::Patterns;
 
 // The answer of an accepted call. The occurrences are pairs.
-#[derive(Clone, Copy)]
+#[derive(Clone, Copy, PartialEq, Eq, Debug)]
 pub struct Answer {
     pub steps: u32,
     pub occurrences: u64,
@@ -29,7 +30,7 @@ pub struct Answer {
 }
 
 // Why a call was refused.
-#[derive(Clone, Copy)]
+#[derive(Clone, Copy, PartialEq, Eq, Debug)]
 pub enum Refusal {
     TextTooLong,
     TextBytesMissing,
@@ -57,13 +58,6 @@ impl Refusal {
     }
 }
 
-// What a call gives back.
-#[derive(Clone, Copy)]
-pub enum Outcome {
-    Accepted(Answer),
-    Refused(Refusal),
-}
-
 // Lists the hits from the mark on: pairs of a place and the number of a pattern that stands there in the first n bits of the
 // text, as far as the budget of steps and the cells of the list go. Each pattern begins on the byte after the one before, in
 // `patterns` and in its second run `fixed`; `counts` has the bit count of each. A pair takes two cells. If the hits of a
@@ -77,15 +71,14 @@ pub fn search_set(
     counts: &[u64],
     budget: u32,
     list: &mut [u32],
-) -> Outcome
+) -> Result<Answer, Refusal>
     ensures { Searched (record { text = text_of text.entry.now n; patterns = set_of patterns.now fixed.now counts.now; mark = mark.at.0; budget = budget; list = list.old }) result list.new }
 {
-    let at = mark.at;
-    let checked = check::check(text, n, patterns, fixed, counts, at);
-    match checked {
-        Checked::Refused(why) => Outcome::Refused(why),
-        Checked::Passed => Outcome::Accepted(call::accepted(
-            at, text, n as u32, patterns, fixed, counts, budget, list,
-        )),
-    }
+    let patterns = Patterns {
+        bytes: patterns,
+        fixed,
+        counts,
+    };
+    check::check(text, n, &patterns, mark.at)?;
+    Ok(call::accepted(mark.at, text, n as u32, &patterns, budget, list))
 }

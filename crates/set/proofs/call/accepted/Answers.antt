@@ -6,10 +6,10 @@ use native.Mathlib.Omega.{arith}
 use lib.ListN.{length, get_or, replicate}
 use Rattle.matcher.specs.Ready.{text_of}
 use Rattle.set_rules.specs.PatternSet.{set_places}
-use Rattle.set_tables.specs.Parts.{set_of}
+use Rattle.set_tables.specs.Parts.{lent}
 use Rattle.set_rules.proofs.Hits.{largest_least}
 use Rattle.set_tables.proofs.Entering.{tables_of}
-use Rattle.set.proofs.Running.{leaves_run}
+use Rattle.set.proofs.Running.{leaves_of}
 use Rattle.set.proofs.call.accepted.Goals as goal
 
 -- the array begins with zeros alone
@@ -23,21 +23,31 @@ enter_all-requires c = record { good_set = c.requires.patterns; in_bounds = (ome
 
 pub overflow_cast-end : goal.overflow_cast-end
 overflow_cast-end c =
-    omega (arith, c.places.ensures, largest_least (λ i. (1 + c.args.n) - get_or c.args.counts.now i 0) (length c.args.counts.now) (2 ^ 30) (λ i l. omega (arith, c.requires.few_bits, (c.requires.patterns.each i l).some_bits)))
+    omega (arith, c.places.ensures, largest_least (λ i. (1 + c.args.n) - get_or c.args.patterns.now.counts.now i 0) (length c.args.patterns.now.counts.now) (2 ^ 30) (λ i l. omega (arith, c.requires.few_bits, (c.requires.patterns.each i l).some_bits)))
 
-pub sure-sure-requires : goal.sure-sure-requires
-sure-sure-requires c = (c.requires.few_bits, c.requires.patterns.few)
+pub sure-requires : goal.sure-requires
+sure-requires c = (c.requires.few_bits, c.requires.patterns.few)
 
-pub run-left-requires : goal.run-left-requires
+pub invariant_of-finder : goal.invariant_of-finder
+invariant_of-finder c =
+    let made = c.enter_all.ensures in
+    record {
+      few_bits = c.requires.few_bits;
+      good = c.requires.patterns;
+      kept = made.0;
+      rows_there = omega arith;
+      lengths = c.sure.ensures;
+      tables = tables_of (lent c.args.patterns.now) c.enter_all.new.halves c.pair_up.new.cells made.1 c.pair_up.ensures.0;
+      cells_there = omega arith;
+    }
+
+pub run-requires : goal.run-requires
 unfolding set_places
-run-left-requires c =
-    let a = c.args in
-    let made = c.enter_all.ensures in record { allowed = c.requires; kept = (made.0, omega arith); lengths = c.sure-sure.ensures; tables = (tables_of (set_of a.patterns.now a.fixed.now a.counts.now) c.enter_all.new.halves c.pair_up.new.cells made.1 c.pair_up.ensures.0, omega arith); end_value = c.places.ensures }
+run-requires c = record { inside = omega (arith, c.requires.inside, c.places.ensures); end_value = c.places.ensures }
 
 pub returns : goal.returns
 unfolding set_places
 returns c =
     let a = c.args in
-    leaves_run (text_of a.text.now a.n) (set_of a.patterns.now a.fixed.now a.counts.now) a.mark.0 a.budget a.list.now c.answer.result
-    c.run-left.result.at.0 c.run-left.result.steps c.run-left.result.hits c.run-left.result.full c.run-left.new.list
-    c.run-left.ensures (rw c.places.ensures at c.answer.ensures)
+    leaves_of (text_of a.text.now a.n) (lent a.patterns.now) a.mark.0 a.budget a.list.now c.answer.result c.run.result _
+    c.run.ensures (rw c.places.ensures at c.answer.ensures)

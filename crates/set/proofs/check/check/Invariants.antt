@@ -2,16 +2,11 @@
 -- pattern passed refuses, and the next one begins after it.
 -- Assumes nothing.
 use mathlib.Core.Path.{◌≡◌}
-use Prim.Native.Nat.{◌-◌, ◌≤◌}
-use lib.ListN.{length}
 use Rattle.search.specs.Verdict.{AllFail}
 use Rattle.set_rules.specs.PatternSet.{start_of}
 use Rattle.set_rules.specs.Verdict.{rows_from}
-use Rattle.set_tables.specs.Parts.{set_of}
+use Rattle.set_tables.specs.Parts.{lent}
 use Rattle.set.proofs.check.check.Given as goal
 
-abbrev pub invariant-loop-i : goal.invariant-loop-i
-invariant-loop-i l = (l.i ≤ length l.counts) × (l.start.0 ≡ start_of l.counts l.i) × AllFail (rows_from (set_of l.patterns l.fixed l.counts) 0 l.i)
-
-abbrev pub decreases-loop-i : goal.decreases-loop-i
-decreases-loop-i l = length l.counts - l.i
+abbrev pub invariant-loop-m : goal.invariant-loop-m
+invariant-loop-m l = (l.start ≡ start_of l.counts l.m-index) × AllFail (rows_from (lent l.patterns) 0 l.m-index)

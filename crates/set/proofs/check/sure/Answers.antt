@@ -12,14 +12,14 @@ pub loop-i-preserved : goal.loop-i-preserved
 loop-i-preserved c =
     let a = c.args in
     let l = c.loop-i in
-    rw (c.larger-longest.ensures, c.long_flag-long.ensures)
-    (measured_more a.counts.now l.longest l.long l.i l.invariant c.loop-i-test.true)
+    rw (c.max-longest.ensures, c.long_flag-long.ensures)
+    (measured_more a.counts.now l.longest l.long l.i l.invariant (omega arith))
 
 pub overflow_cast-result : goal.overflow_cast-result
-overflow_cast-result c = omega (arith, c.places_of.ensures)
+overflow_cast-result c = omega (arith, c.saturating_sub.ensures)
 
 pub returns : goal.returns
 returns c =
     let a = c.args in
     let l = c.loop-i in
-    rw c.places_of.ensures (measured_all a.counts.now a.n l.longest l.long l.i l.invariant c.loop-i-test.false)
+    rw c.saturating_sub.ensures (measured_all a.counts.now a.n l.longest l.long l.i l.invariant (omega arith))

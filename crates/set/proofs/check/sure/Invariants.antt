@@ -1,12 +1,7 @@
 -- `set::check::sure` meets its contract. The loop's invariant: what the lengths of the patterns passed tell.
 -- Assumes nothing.
-use Prim.Native.Nat.{◌-◌}
-use lib.ListN.{length}
 use Rattle.set.proofs.Listing.{Measured}
 use Rattle.set.proofs.check.sure.Given as goal
 
 abbrev pub invariant-loop-i : goal.invariant-loop-i
 invariant-loop-i l = Measured l.counts l.longest l.long l.i
-
-abbrev pub decreases-loop-i : goal.decreases-loop-i
-decreases-loop-i l = length l.counts - l.i

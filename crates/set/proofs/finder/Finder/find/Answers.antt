@@ -6,36 +6,35 @@ use lib.ListN.{length}
 use Rattle.bits.specs.Packed.{Packed, bits_at}
 use Rattle.rules.specs.Ranges.{among}
 use Rattle.rules.specs.Occurrence.{occurs}
-use Rattle.matcher.specs.Ready.{text_of}
 use Rattle.matcher.proofs.Writing.{writing_length}
 use Rattle.set_rules.specs.PatternSet.{PatternSet, pattern_at}
 use Rattle.set_tables.specs.Fronts.{begins, Flags}
-use Rattle.set_tables.specs.Parts.{set_of}
+use Rattle.set.specs.Parts.{text_in, set_in}
 use Rattle.set.proofs.Standing.{finding_none, found, few_found, lowest_small, lowest_known, lowest_begins, finding_miss, finding_hit}
 use Rattle.set.proofs.Listing.{listed_stand}
-use Rattle.set.proofs.step.find.Goals as goal
-use Rattle.set.proofs.step.find.Goals.{At-loop-f, In-loop-f, Start}
+use Rattle.set.proofs.finder.Finder.find.Goals as goal
+use Rattle.set.proofs.finder.Finder.find.Goals.{At-loop-f, In-loop-f, Start}
 
 -- the text and the set
 abbrev text-of : Start → Packed
-text-of c = text_of c.args.text.now c.args.n
+text-of c = text_in c.args.self.now
 
 abbrev set-of : Start → PatternSet
-set-of c = set_of c.args.patterns.now c.args.fixed.now c.args.counts.now
+set-of c = set_in c.args.self.now
 
 -- the flags are those of the patterns that begin at the place
 small : (c : Start) → c.args.flags < 2 ^ 64
 small c = omega (arith, c.ranges.flags)
 
 marked : (c : Start)
-    → Flags (set_of c.args.patterns.now c.args.fixed.now c.args.counts.now) (length c.args.counts.now) (λ w. begins w 0 32 (bits_at c.args.text.now c.args.p.0 32)) c.args.flags
+    → Flags (set_in c.args.self.now) (length c.args.self.now.patterns.counts.now) (λ w. begins w 0 32 (bits_at c.args.self.now.text.now c.args.p.0 32)) c.args.flags
 marked c = c.requires.flags
 
 -- the lowest flag is that of a pattern of the set, which begins there
-low : (c : In-loop-f) → c.loop-f.from + count_trailing_zeros 64 c.loop-f.f < length c.args.counts.now
+low : (c : In-loop-f) → c.loop-f.from + count_trailing_zeros 64 c.loop-f.f < length c.args.self.now.patterns.counts.now
 low c =
     let l = c.loop-f in
-    lowest_known (text_of c.args.text.now c.args.n) (set_of c.args.patterns.now c.args.fixed.now c.args.counts.now) c.args.p.0 c.args.flags (omega (arith, c.ranges.flags)) (c.requires.flags) c.args.numbers.now
+    lowest_known (text_in c.args.self.now) (set_in c.args.self.now) c.args.p.0 c.args.flags (omega (arith, c.ranges.flags)) (c.requires.flags) c.args.numbers.now
     l.numbers l.f l.from l.count l.invariant c.loop-f-test.true
 
 -- there is a cell for its number
@@ -45,34 +44,35 @@ room c =
     omega (
       arith,
       low c,
-      few_found (text_of c.args.text.now c.args.n) (set_of c.args.patterns.now c.args.fixed.now c.args.counts.now) c.args.p.0 c.args.flags (omega (arith, c.ranges.flags)) (c.requires.flags) c.args.numbers.now
+      few_found (text_in c.args.self.now) (set_in c.args.self.now) c.args.p.0 c.args.flags (omega (arith, c.ranges.flags)) (c.requires.flags) c.args.numbers.now
           l.numbers l.f l.from l.count l.invariant,
-      c.requires.good_set,
+      c.requires.numbers_there,
+      c.args.self.now.good.few,
     )
 
 -- the numbers are as many as they were
 long : (c : At-loop-f) → length c.loop-f.numbers ≡ length c.args.numbers.now
 long c =
     let l = c.loop-f in
-    writing_length c.args.numbers.now 0 (among (λ i. occurs (text_of c.args.text.now c.args.n) (pattern_at (set_of c.args.patterns.now c.args.fixed.now c.args.counts.now) i) c.args.p.0) 0 l.from) l.numbers l.count l.invariant.writing
+    writing_length c.args.numbers.now 0 (among (λ i. occurs (text_in c.args.self.now) (pattern_at (set_in c.args.self.now) i) c.args.p.0) 0 l.from) l.numbers l.count l.invariant.writing
 
 pub listed-requires : goal.listed-requires
-listed-requires c = c.requires.good_set.1
+listed-requires c = c.requires.numbers_there
 
-pub shape_of-numbers-then-flags-sure-eq0 : goal.shape_of-numbers-then-flags-sure-eq0
-shape_of-numbers-then-flags-sure-eq0 c = c.listed.auto.numbers
+pub shape_of-numbers-then-flags-self-eq0 : goal.shape_of-numbers-then-flags-self-eq0
+shape_of-numbers-then-flags-self-eq0 c = c.listed.auto.numbers
 
-pub returns-then-flags-sure-eq0 : goal.returns-then-flags-sure-eq0
-returns-then-flags-sure-eq0 c =
-    listed_stand (text-of (goal.at.returns-then-flags-sure-eq0 c).Start) (set-of (goal.at.returns-then-flags-sure-eq0 c).Start) c.args.p.0 c.args.flags c.args.sure.until c.args.sure.long c.requires.good_set.0.few c.requires.lengths (marked (goal.at.returns-then-flags-sure-eq0 c).Start)
-    c.if-p-sure.true c.if-flags-sure-eq0.true c.args.numbers.now _ _ c.listed.ensures
+pub returns-then-flags-self-eq0 : goal.returns-then-flags-self-eq0
+returns-then-flags-self-eq0 c =
+    listed_stand (text-of (goal.at.returns-then-flags-self-eq0 c).Start) (set-of (goal.at.returns-then-flags-self-eq0 c).Start) c.args.p.0 c.args.flags c.args.self.now.sure.until c.args.self.now.sure.long c.args.self.now.good.few c.args.self.now.lengths (marked (goal.at.returns-then-flags-self-eq0 c).Start)
+    c.if-p-self.true c.if-flags-self-eq0.true c.args.numbers.now _ _ c.listed.ensures
 
 pub loop-f-init : goal.loop-f-init
 loop-f-init c =
     finding_none (text-of (goal.at.loop-f-init c).Start) (set-of (goal.at.loop-f-init c).Start) c.args.p.0 c.args.flags (small (goal.at.loop-f-init c).Start) (marked (goal.at.loop-f-init c).Start) c.args.numbers.now
 
 pub overflow_add-i : goal.overflow_add-i
-overflow_add-i c = omega (arith, low c, c.requires.good_set.0.few)
+overflow_add-i c = omega (arith, low c, c.args.self.now.good.few)
 
 pub overflow_cast-f : goal.overflow_cast-f
 overflow_cast-f c = omega (arith, trailing_le 64 c.loop-f.f)
@@ -84,19 +84,17 @@ overflow_shr-f c =
     l.numbers l.f l.from l.count l.invariant c.loop-f-test.true
 
 pub overflow_add-from : goal.overflow_add-from
-overflow_add-from c = omega (arith, low c, c.requires.good_set.0.few)
+overflow_add-from c = omega (arith, low c, c.args.self.now.good.few)
 
 pub overflow_cast-i : goal.overflow_cast-i
-overflow_cast-i c = omega (arith, low c, c.requires.good_set.0.few)
+overflow_cast-i c = omega (arith, low c, c.args.self.now.good.few)
 
 pub stands-requires : goal.stands-requires
 stands-requires c =
     let l = c.loop-f in record {
-      good_set = (c.requires.good_set.0, low c);
-      kept = c.requires.kept;
-      n_bound = (
-        c.requires.n_bound.0,
-        c.requires.n_bound.1,
+      known = low c;
+      begins_there = (
+        c.requires.p_bound,
         lowest_begins (text-of (goal.at.stands-requires c).Start) (set-of (goal.at.stands-requires c).Start) c.args.p.0 c.args.flags (small (goal.at.stands-requires c).Start) (marked (goal.at.stands-requires c).Start) c.args.numbers.now
             l.numbers l.f l.from l.count l.invariant c.loop-f-test.true,
       );
