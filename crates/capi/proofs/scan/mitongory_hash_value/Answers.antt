@@ -19,4 +19,4 @@ pub returns-in-Ok : goal.returns-in-Ok
 unfolding hash_told
 returns-in-Ok c =
     let told = rw c.in-Ok.is at c.hash_value.ensures in
-    number_told (λ v. v) _ _ _ c.if-answer-lt1.false (ap number_tells told) c.one.ensures
+    number_told (λ v. v) _ _ _ c.if-answer-lt1.false (ap number_tells told) (rw c.from.ensures at c.one.ensures)
