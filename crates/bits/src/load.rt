@@ -67,9 +67,7 @@ pub fn eight_bytes(bytes: &[u8], b: ByteNo) -> u64
     )
 }
 
-// The same where the bytes end with these eight or before: only those that are there are read. A hot loop calls this at the end
-// alone, so it is not inlined there.
-#[inline(never)]
+// The same where the bytes end with these eight or before: only those that are there are read.
 fn last_bytes(bytes: &[u8], b: ByteNo) -> u64
     requires { length bytes.now ≤ b.0 + 8 }
     ensures { result ≡ bits_at bytes.now (b.0 * 8) 64 }
@@ -95,7 +93,8 @@ pub fn word_inside(bytes: &[u8], p: Place) -> u64
     (eight_bytes(bytes, b) << r) | (u64::from(bytes[ninth]) >> (8 - r))
 }
 
-// The 64 bits from p on.
+// The 64 bits from p on. A call, so that the loops around it stay small.
+#[inline(never)]
 pub fn word_at(bytes: &[u8], p: Place) -> u64
     ensures { result ≡ bits_at bytes.now p.0 64 }
 {
@@ -116,7 +115,7 @@ pub fn head_inside(bytes: &[u8], p: Place) -> u64
     eight_bytes(bytes, p.byte()) << p.offset()
 }
 
-// The 64 bits from byte b on: one machine load but near the end.
+// The 64 bits from byte b on: one machine load, and near the end a call.
 pub fn word_at_byte(bytes: &[u8], b: ByteNo) -> u64
     requires { b.0 < 2 ^ 29 }
     ensures { result ≡ bits_at bytes.now (b.0 * 8) 64 }
@@ -128,7 +127,7 @@ pub fn word_at_byte(bytes: &[u8], b: ByteNo) -> u64
     }
 }
 
-// The same where the bytes mostly end soon, as those of a short pattern do.
+// The same where the bytes mostly end soon, as those of a short pattern do: no call.
 pub fn word_near_end(bytes: &[u8], b: ByteNo) -> u64
     requires { b.0 < 2 ^ 29 }
     ensures { result ≡ bits_at bytes.now (b.0 * 8) 64 }
