@@ -1,4 +1,4 @@
-use Rattle.std.proofs.Common.{ℕ, List, [], ◌∷◌, ◌++◌, codes, decimal}
+use Rattle.std.proofs.Common.{rules, ℕ, List, [], ◌∷◌, ◌++◌, codes, decimal}
 use Rattle.std.proofs.lemmas.Result.{on_ok_weaker}
 use Rattle.std.specs.Io.KnownBytes.{Appends}
 use Rattle.draws.specs.Growing.{EndsWith}
@@ -19,4 +19,4 @@ returns g c =
     {Q = (wrong : ℕ) × EndsWith before after (text wrong)}
     c.line.result
     (λ p. (c.loop-number.wrong, ends_with before cases after _ c.loop-number.invariant p))
-    c.line.ensures
+    (search rules)
