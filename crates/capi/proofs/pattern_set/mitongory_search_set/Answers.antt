@@ -26,4 +26,4 @@ pub returns-in-Ok : goal.returns-in-Ok
 returns-in-Ok c =
     let q = asked (goal.at.returns-in-Ok c).Start in
     let made = rw c.in-Ok.is at c.search_set.ensures in
-    set_accepted q (omega arith) _ _ _ _ made (rw (c.stop_of.ensures, c.from.ensures, c.from-2.ensures) at c.four.ensures)
+    set_accepted q (omega arith) _ _ _ _ made (rw (c.stop_of.ensures, c.from.ensures, c.from-in-Ok.ensures) at c.four.ensures)

@@ -7,4 +7,4 @@ pub returns-in-Err : goal.returns-in-Err
 returns-in-Err c = rw c.in-Err.is (record { result_is = c.number.ensures; answer_is = refl })
 
 pub returns-in-Ok : goal.returns-in-Ok
-returns-in-Ok c = rw c.in-Ok.is (rw (c.stop_of.ensures, c.from.ensures, c.from-2.ensures, c.from-3.ensures) at c.four.ensures)
+returns-in-Ok c = rw c.in-Ok.is (rw (c.stop_of.ensures, c.from.ensures, c.from-in-Ok.ensures, c.from-in-Ok-2.ensures) at c.four.ensures)
