@@ -61,7 +61,8 @@ fn enter(pattern: &Pattern, d: u32, k: u32, cells: &mut [u64])
     }
 }
 
-// All moves of a pattern without wild bits, the greatest first: the least one of a value is entered last.
+// All moves of a pattern without wild bits, the greatest first: the least one of a value is entered last. By a `while`, as the
+// last turn enters fewer than 57.
 fn prepare_fixed(pattern: &Pattern, cells: &mut [u64])
     requires good_pattern { GoodPattern Method.Hash (lent pattern.now) }
     requires all_fixed { AllFixed (lent pattern.now) }
@@ -185,7 +186,7 @@ fn unset_all(cells: &mut [u64])
     cells[UNSET..UNSET + 16].fill(65535);
 }
 
-// All moves of any pattern, the least first, until each value has one.
+// All moves of any pattern, the least first, until each value has one: by a `while`, as it may end before the pattern does.
 fn prepare_wild(pattern: &Pattern, cells: &mut [u64])
     requires good_pattern { GoodPattern Method.Hash (lent pattern.now) }
     requires in_bounds { 512 ≤ length cells.old }
