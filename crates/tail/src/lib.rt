@@ -114,7 +114,8 @@ fn top(d: u64) -> u32
     63 - (d | 1).leading_zeros()
 }
 
-// The first index at which the pattern is fixed and differs from the last r bits of the window, if that is below r.
+// The first index at which the pattern is fixed and differs from the last r bits of the window, if that is below r. It takes two
+// of the masks and not all, as does the next: of a word that is a parameter the check knows that it has 64 bits.
 fn first_difference(ones: u64, care: u64, x: u64, r: u32) -> u32
     requires { r < 64 }
     ensures { Differs ones care x r result }
@@ -137,7 +138,7 @@ fn compare_down(ones: u64, care: u64, x: u64, d: u64) -> u32
     r
 }
 
-// Four bits of the pattern from bit `from` on, each spread over a word.
+// Four bits of the pattern from bit `from` on, each spread over a word. They are no array, since each is taken by itself.
 #[derive(Clone, Copy)]
 struct FourBits {
     from: u32,
@@ -173,7 +174,8 @@ impl FourBits {
 
 // What the steps of a call share: the pattern's bit count and its masks; a 0 for each of its wild bits in `care`; a 1 for each
 // length below the bit count in `below`; its first bit, in every bit of `flip`; a 1 for each length above its first run in
-// `past`; and eight of its bits, twice four in a row.
+// `past`; and eight of its bits, twice four in a row. `Made` says what they are. It stands in the clauses: as ghost fields it
+// would be no plainer, since its definitions speak of these two structs, and would have to be put into files apart from them.
 #[derive(Clone, Copy)]
 struct Masks {
     m: u32,
@@ -233,7 +235,8 @@ impl Masks {
 // window too if that is the same: on a regular text the processor then knows the next place without waiting for the length.
 //
 // A function with two callers is not inlined, and one with a single caller is. So that the loop has all registers, one step is
-// made here too; and so that `window` is inlined in the loop, the first window is loaded without it.
+// made here too; and so that `window` is inlined in the loop, the first window is loaded without it. The steps are counted by
+// hand, since a `for` would keep the count to itself.
 fn scan(search: &Search<Tail>, s: Place, budget: u32, list: &mut [u32]) -> Result<Reached, Full>
     requires { s.0 ≤ places (text_in search.now.query) (pattern_in search.now.query) }
     ensures advanced { AdvanceGives Method.Tail (text_in search.now.query) (pattern_in search.now.query) s.0 budget list.old result list.new }
