@@ -28,10 +28,9 @@ first_fits bytes cells i = eqb (bit_and bytes (get_or cells (8 + i) 0)) (get_or 
 abbrev pub NonePass : (ℕ → Bool) → ℕ → ℕ → Type 0
 NonePass f a b = (i : ℕ) → a ≤ i → i < b → f i ≡ false
 
--- r is the first of them that does
-pub record IsFirst (f : ℕ → Bool) (a b r : ℕ) : Type 0 where
+-- r is the first number from a on that does
+pub record IsFirst (f : ℕ → Bool) (a r : ℕ) : Type 0 where
   pub from : a ≤ r
-  pub before : r < b
   pub passes : f r ≡ true
   pub none_sooner : NonePass f a r
 

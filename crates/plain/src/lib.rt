@@ -3,7 +3,7 @@
 #![tactic(auto)]
 
 ghost use Rattle.std.specs.Prelude.{◌≡◌, true, cond, ◌↔◌, ℕ, ◌+◌, ◌*◌, ◌^◌, ◌≤◌, ◌<◌, ltb, length, MatchOption};
-ghost use Rattle.bits.specs.Packed.{bit_of, bytes_for};
+ghost use Rattle.bits.specs.Packed.{bit_of};
 ghost use Rattle.matcher.specs.Tables.{row_chunks};
 ghost use Rattle.plain.specs.RowCells.{first_fits, cell_fits, shifted_bit, Filled, NonePass, IsFirst, Small};
 
@@ -66,16 +66,16 @@ fn fill(cells: &mut [u64], k: usize, prev: u64, x: u64, prev_mask: u64, mask: u6
 // The first row from `from` on whose first cell agrees with eight bytes of the text.
 fn first_row(cells: &[u64], bytes: u64, from: usize) -> Option<usize>
     requires { 16 ≤ length cells.now }
-    ensures { MatchOption result (NonePass (first_fits bytes cells.now) from 8) (IsFirst (first_fits bytes cells.now) from 8) }
+    ensures { MatchOption result (NonePass (first_fits bytes cells.now) from 8) (λ r. (r < 8) × IsFirst (first_fits bytes cells.now) from r) }
 {
     (from..8).find(|i| bytes & cells[8 + *i] == cells[*i])
 }
 
-// The first place from byte `from` on that the first cell of its row does not rule out, up to the end of the byte of the last
-// place before the limit. Each load serves the eight places of a byte.
+// The first place from byte `from` on that the first cell of its row does not rule out. Each load serves the eight places of a
+// byte, so in the limit's byte it may lie after the limit.
 fn in_blocks(text: &[u8], cells: &[u64], from: ByteNo, limit: Place) -> Option<Place>
     requires { (16 ≤ length cells.now) × (limit.0 ≤ 2 ^ 30 + 1) }
-    ensures { MatchOption result (NonePass (λ p. cell_fits text.now cells.now p 0) (8 * from.0) (8 * bytes_for limit.0)) (λ r. IsFirst (λ p. cell_fits text.now cells.now p 0) (8 * from.0) (8 * bytes_for limit.0) r.0) }
+    ensures { MatchOption result (NonePass (λ p. cell_fits text.now cells.now p 0) (8 * from.0) limit.0) (λ r. IsFirst (λ p. cell_fits text.now cells.now p 0) (8 * from.0) r.0) }
 {
     for byte in from.0..bits::bytes_for(limit.0 as u64) as usize {
         let b = ByteNo(byte);
@@ -86,18 +86,17 @@ fn in_blocks(text: &[u8], cells: &[u64], from: ByteNo, limit: Place) -> Option<P
     None
 }
 
-// The first place from s on, and before the limit, that the first cell of its row does not rule out.
+// The first place from s on that the first cell of its row does not rule out, likewise.
 fn candidate(text: &[u8], cells: &[u64], s: Place, limit: Place) -> Option<Place>
     requires { (16 ≤ length cells.now) × (limit.0 ≤ 2 ^ 30 + 1) × (s.0 ≤ limit.0) }
-    ensures first { MatchOption result (NonePass (λ p. cell_fits text.now cells.now p 0) s.0 limit.0) (λ r. IsFirst (λ p. cell_fits text.now cells.now p 0) s.0 limit.0 r.0) }
+    ensures first { MatchOption result (NonePass (λ p. cell_fits text.now cells.now p 0) s.0 limit.0) (λ r. IsFirst (λ p. cell_fits text.now cells.now p 0) s.0 r.0) }
     ensures small { Small cells.now }
 {
     let b = s.byte();
-    let first = match first_row(cells, load::word_at_byte(text, b), s.offset() as usize) {
+    match first_row(cells, load::word_at_byte(text, b), s.offset() as usize) {
         Some(row) => Some(b.place_at(row as u32)),
         None => in_blocks(text, cells, ByteNo(b.0 + 1), limit),
-    };
-    first.filter(|p| *p < limit)
+    }
 }
 
 // Whether the cells of the row from cell `from` on agree at place s: cell k, whose first bit is the row's bit 64 k, with as
@@ -176,6 +175,9 @@ impl Matcher for Plain {
         let mut at = s;
         let mut hits = 0usize;
         while let Some(p) = candidate(text, cells, at, limit) {
+            if limit <= p {
+                break;
+            }
             if row_fits(text, m, cells, p, 1) {
                 if list.len() <= hits {
                     return Err(Full(Reached {

@@ -15,10 +15,9 @@ returns-in-Some c =
     let there = c.place_at.ensures in
     record {
       from = omega arith;
-      before = omega arith;
-      passes = rw there (block_fits a.text.now a.cells.now l.byte _ _ row.before load row.passes);
+      passes = rw there (block_fits a.text.now a.cells.now l.byte _ _ row.0 load row.1.passes);
       none_sooner = between_join _ _ (8 * l.byte) _ l.invariant
-          (λ p g u. block_passed a.text.now a.cells.now l.byte 0 _ _ (omega arith) load row.none_sooner p (omega arith) (omega arith));
+          (λ p g u. block_passed a.text.now a.cells.now l.byte 0 _ _ (omega arith) load row.1.none_sooner p (omega arith) (omega arith));
     }
 
 pub loop-byte-preserved : goal.loop-byte-preserved
