@@ -1,7 +1,7 @@
 -- Laws of the places of a step of the skip method: how its mark and its byte lie to each other, and what a walk over the indices
 -- that show the byte says of the places that contain it.
 -- Assumes nothing.
-use Prim.Native.Nat.{ℕ, ◌+◌, ◌-◌, ◌*◌, ◌/◌, ◌%◌, ◌^◌, ◌≤◌, ◌<◌}
+use Prim.Native.Nat.{ℕ, ◌+◌, ◌-◌, ◌*◌, ◌/◌, ◌%◌, ◌≤◌, ◌<◌}
 use mathlib.Core.Path.{◌≡◌, sym, ap, ap₂, ◌∙◌}
 use mathlib.Core.Bool.{Bool, true, false, true≢false}
 use mathlib.Core.List.{List, [], ◌∷◌, ◌++◌, append-nil}
@@ -36,10 +36,6 @@ chained_span s m e long = omega arith
 pub next_byte : (b m j k at : ℕ) → 15 ≤ m → j ≡ chained m → k ≡ j / 8 → at ≡ 8 * b + 1 → b + k ≡ (at + m) / 8 - 1
 unfolding chained
 next_byte b m j k at long e f g = omega arith
-
-pub next_fits : (b m j k : ℕ) → b + m < 2 ^ 32 → j ≡ chained m → k ≡ j / 8 → b + k < 2 ^ 64
-unfolding chained
-next_fits b m j k h e f = omega arith
 
 -- the last byte of a mark 8 a + 1: it lies so far from the text's start, and inside the text
 module _ (s n m b : ℕ) (long : 15 ≤ m) (last : b ≡ (s + m) / 8 - 1) where

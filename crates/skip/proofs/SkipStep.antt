@@ -1,6 +1,6 @@
 -- Laws of a step of the skip method: the places that it finds are the occurrences up to 8 b + 1, one after the other.
 -- Assumes nothing.
-use Prim.Native.Nat.{ℕ, ◌+◌, ◌-◌, ◌*◌, ◌/◌, ◌%◌, ◌≤◌, ◌<◌, min, ◌^◌}
+use Prim.Native.Nat.{ℕ, ◌+◌, ◌-◌, ◌*◌, ◌%◌, ◌≤◌, ◌<◌, min}
 use mathlib.Core.Path.{◌≡◌, refl, sym, ap, ◌∙◌}
 use mathlib.Core.Bool.{Bool, true, false}
 use mathlib.Core.List.{List, [], ◌∷◌, ◌++◌}
@@ -95,14 +95,6 @@ module _ (t : Packed) (w : Pattern) where
 pub top_odd : (b at : ℕ) → at ≡ 8 * b + 1 → at % 8 ≡ 1
 top_odd b at e = omega arith
 
--- how far the places of a step reach: the index of each fits into the pattern
-pub span_fits : (s m : ℕ) → 15 ≤ m → 8 * ((s + m) / 8 - 1) + 1 - s + 7 ≤ m
-span_fits s m long = omega arith
-
--- and the last one is among the pattern's last eight
-pub span_near : (s m : ℕ) → 15 ≤ m → m < 8 * ((s + m) / 8 - 1) + 1 - s + 15
-span_near s m long = omega arith
-
 pub below_top : (x j : ℕ) → 0 < j → j ≤ x → x - j < x
 below_top x j g l = omega arith
 
@@ -125,6 +117,3 @@ place_below x j e h l = omega arith
 -- a place below E is a small number
 pub place_fits : (x n m k : ℕ) → x < 1 + n - m → n ≤ k → x ≤ k
 place_fits x n m k h l = omega arith
-
-pub place_small : (x n m : ℕ) → x < 1 + n - m → n ≤ 2 ^ 30 → x < 2 ^ 32
-place_small x n m h l = omega arith

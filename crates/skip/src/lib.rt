@@ -200,13 +200,7 @@ fn many<K: Steps>(
             Ok(one) => {
                 hits += one.hits;
             }
-            Err(Full(cut)) => {
-                return Err(Full(Reached {
-                    at: cut.at,
-                    steps,
-                    hits: hits + cut.hits,
-                }));
-            }
+            Err(cut) => return Err(cut.after(steps, hits)),
         }
         steps += 1;
         at = b.place_at(1).0;
@@ -255,6 +249,7 @@ impl Matcher for Skip {
     }
 
     // From a mark that is not 8 a + 1 it makes no step: only a call's first mark is one.
+    #[tactic(auto, using(matcher::proofs::Advancing::advanced_none))]
     fn advance(
         search: &Search<Skip>,
         s: Place,

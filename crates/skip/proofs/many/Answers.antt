@@ -1,4 +1,4 @@
-use Rattle.std.proofs.Common.{true, false, ◌*◌, ◌≤◌, ◌<◌, ◌∙◌, length, arith}
+use Rattle.std.proofs.Common.{◌≡◌, true, false, ◌*◌, ◌≤◌, ◌<◌, ◌∙◌, length, arith}
 use native.Mathlib.Nat.{mul_comm}
 use Rattle.bits.specs.Packed.{Packed}
 use Rattle.rules.specs.declared.Method.TheVariants.{Skip}
@@ -58,8 +58,10 @@ returns-in-Err g c =
     let from = mark_from t w l.at l.b.0 (long g s) l.invariant.0 l.invariant.1 in
     let fits = written g (goal.at.returns-in-Err g c).At-loop-b in
     let one = rw from at (stepped_rest l.list l.hits fits Skip t w _ _ _ true c.step.new.list c.in-Err.ensures.0) in
-    advanced_step Skip t w a.s.0 a.budget a.list.now 0 l.at l.steps l.hits l.list (omega arith) l.invariant.2 _ _ true _
-    (mark_due g (goal.at.returns-in-Err g c).In-loop-b) c.if-steps-budget.true one
+    let same : c.after.result.0.steps ≡ l.steps = omega (arith, c.after.ensures.1, c.in-Err.ensures.1) in
+    rw (c.after.ensures.0, same, c.after.ensures.2)
+    (advanced_step Skip t w a.s.0 a.budget a.list.now 0 l.at l.steps l.hits l.list (omega arith) l.invariant.2 _ _ true _
+    (mark_due g (goal.at.returns-in-Err g c).In-loop-b) c.if-steps-budget.true one)
 
 pub loop-b-preserved : goal.loop-b-preserved
 loop-b-preserved g c =

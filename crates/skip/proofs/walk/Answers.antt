@@ -18,7 +18,7 @@ use Rattle.skip_tables.proofs.SkipBelow.{below_is}
 use Rattle.skip_tables.proofs.SkipShows.{shown_chain}
 use Rattle.skip_tables.proofs.SkipChain.{chained_fits, headed_within, headed_passes, headed_more, link_less, chain_link}
 use Rattle.skip.proofs.SkipPlaces.{mark_byte, byte_of, byte_is, walk_start, walk_by, walk_found}
-use Rattle.skip.proofs.SkipSizes.{ByteSizes, byte_sizes, long_enough}
+use Rattle.skip.proofs.SkipSizes.{long_enough}
 use Rattle.skip.proofs.SkipStep.{below_top, place_below, written_more, skip_full, skip_all}
 use Rattle.skip.proofs.walk.Goals as goal
 use Rattle.skip.proofs.walk.Goals.{After-place, After-same, At-loop-next, In-loop-next, Start, then-same+else-list-hits, else-same}
@@ -45,10 +45,6 @@ mark c = 8 * c.args.b.0 + 1 - chained c.args.by.now.search.now.query.pattern.m
 
 long : (c : Start) → 15 ≤ c.args.by.now.search.now.query.pattern.m
 long c = long_enough _ _ _ c.args.by.now.search.now.ready
-
--- the numbers of the step fit
-fitting : (c : Start) → ByteSizes c.args.by.now.search.now.query.n (length c.args.by.now.search.now.query.text.now) c.args.b.0
-fitting c = byte_sizes _ _ _ c.args.by.now.search.now.ready c.args.b.0 c.requires.1
 
 -- each place contains the byte
 covers : (c : Start) → 8 * c.args.b.0 + 8 ≤ mark c + c.args.by.now.search.now.query.pattern.m

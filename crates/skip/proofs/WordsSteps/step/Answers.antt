@@ -8,7 +8,7 @@ use native.Mathlib.Decide.{dec_le, ℕ_discrete}
 use native.Mathlib.Omega.{arith}
 use lib.Bits.{bit_and, and_le_l, and_le_r}
 use lib.Count.{count_trailing_zeros, trailing_le}
-use lib.ListN.{length, get_or}
+use lib.ListN.{get_or}
 use Rattle.bits.specs.Packed.{Packed}
 use Rattle.rules.specs.Pattern.{Pattern}
 use Rattle.rules.specs.Occurrence.{occurs, occurrences}
@@ -24,7 +24,7 @@ use Rattle.skip_tables.proofs.SkipBelow.{below_is}
 use Rattle.skip_tables.proofs.SkipChain.{chained_fits}
 use Rattle.skip_tables.proofs.SkipWords.{low_fits, lowest_is, flagging_rest}
 use Rattle.skip.proofs.SkipPlaces.{chained_near, mark_byte, byte_of, byte_is, walk_by, walk_found, sweep_gap, Sweeping}
-use Rattle.skip.proofs.SkipSizes.{ByteSizes, byte_sizes, long_enough}
+use Rattle.skip.proofs.SkipSizes.{long_enough}
 use Rattle.skip.proofs.SkipStep.{below_top, place_fits, place_below, written_more, skip_full, skip_all}
 use Rattle.skip.proofs.WordsSteps.step.Goals as goal
 use Rattle.skip.proofs.WordsSteps.step.Goals.{After-place-from, In-Some, Start}
@@ -58,10 +58,6 @@ mark c = 8 * c.args.b.0 + 1 - chained c.args.by.now.search.now.query.pattern.m
 
 long : (c : Start) → 15 ≤ c.args.by.now.search.now.query.pattern.m
 long c = long_enough _ _ _ c.args.by.now.search.now.ready
-
--- the numbers of the step fit
-fitting : (c : Start) → ByteSizes c.args.by.now.search.now.query.n (length c.args.by.now.search.now.query.text.now) c.args.b.0
-fitting c = byte_sizes _ _ _ c.args.by.now.search.now.ready c.args.b.0 c.requires.1
 
 -- each place contains the byte
 covers : (c : Start) → 8 * c.args.b.0 + 8 ≤ mark c + c.args.by.now.search.now.query.pattern.m
