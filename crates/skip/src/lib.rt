@@ -9,6 +9,7 @@
 ghost use Rattle.std.specs.Prelude.{◌≡◌, ◌↔◌, true, get_or, ◌+◌, ◌-◌, ◌*◌, ◌%◌, ◌≤◌, ◌<◌};
 ghost use Rattle.rules.specs.Occurrence.{places};
 ghost use Rattle.matcher.specs.Tables.{chained};
+ghost use Rattle.skip_tables.specs.SkipChains.{Flagging};
 ghost use Rattle.matcher.specs.Asked.{lent, text_in, pattern_in};
 ghost use Rattle.matcher.specs.Gives.{StepGives, AdvanceGives};
 
@@ -140,9 +141,51 @@ impl Steps for Chains {
     }
 }
 
+// The flags of a block after those of another, lowest first, from this one on. The place of a block's flag e is 8 b + 8 + 57 times
+// the block's number + e, less m. Most bytes have no flag, so it is cold as well.
+#[cold]
+fn sweep(
+    by: &SearchBy<Words>,
+    b: ByteNo,
+    first: Block,
+    list: &mut [u32],
+) -> Result<Reached, Full>
+    requires m_bound { (chained by.now.search.now.query.pattern.m ≤ 8 * b.0) × (8 * b.0 < places (text_in by.now.search.now.query) (pattern_in by.now.search.now.query)) }
+    requires flagging { Flagging (pattern_in by.now.search.now.query) (get_or by.now.search.now.query.text.now b.0 0) (chained by.now.search.now.query.pattern.m) first.number first.left }
+    ensures { StepGives Method.Skip (text_in by.now.search.now.query) (pattern_in by.now.search.now.query) (8 * b.0 + 1 - chained by.now.search.now.query.pattern.m) list.old result list.new }
+{
+    let query = &by.search.query;
+    let m = query.pattern.m;
+    let tables: Tables<Words> = Tables {
+        pattern: &query.pattern,
+        cells: by.search.cells,
+        of: PhantomData,
+    };
+    let byte = b.0;
+    let v = query.text[byte];
+    let from = b.place().0 + 8;
+    let mut block = first;
+    let mut hits = 0usize;
+    while let Some(next) = tables.next_block(v, block) {
+        let p = from + 57 * next.number + next.left.trailing_zeros() - m;
+        block = Block {
+            number: next.number,
+            left: next.left & (next.left - 1),
+        };
+        if query.same(Place(p)) {
+            if list.len() <= hits {
+                return Err(no_cell(Place(p), hits));
+            }
+            list[hits] = p;
+            hits += 1;
+        }
+    }
+    let at = b.place_at(1);
+    Ok(Reached { at, steps: 1, hits })
+}
+
 impl Steps for Words {
-    // The flags of a block after those of another, lowest first. The place of a block's flag e is 8 b + 8 + 57 times the block's
-    // number + e, less m.
+    // Where no index shows the byte, there is nothing to sweep.
     fn step(by: &SearchBy<Words>, b: ByteNo, list: &mut [u32]) -> Result<Reached, Full> {
         let query = &by.search.query;
         let m = query.pattern.m;
@@ -153,28 +196,18 @@ impl Steps for Words {
         };
         let byte = b.0;
         let v = query.text[byte];
-        let from = b.place().0 + 8;
-        let mut block = tables.first_block(v, indices(m));
-        let mut hits = 0usize;
-        while let Some(next) = tables.next_block(v, block) {
-            let p = from + 57 * next.number + next.left.trailing_zeros() - m;
-            block = Block {
-                number: next.number,
-                left: next.left & (next.left - 1),
-            };
-            if query.same(Place(p)) {
-                if list.len() <= hits {
-                    return Err(no_cell(Place(p), hits));
-                }
-                list[hits] = p;
-                hits += 1;
+        let first = tables.first_block(v, indices(m));
+        match tables.next_block(v, first) {
+            Some(block) => sweep(by, b, block, list),
+            None => {
+                let at = b.place_at(1);
+                Ok(Reached {
+                    at,
+                    steps: 1,
+                    hits: 0,
+                })
             }
         }
-        Ok(Reached {
-            at: b.place_at(1),
-            steps: 1,
-            hits,
-        })
     }
 }
 

@@ -1,11 +1,11 @@
--- The step by words meets its contract. The loop's invariant: the flags left are those of the indices below a bound, and the
+-- `skip::sweep` meets its contract. The loop's invariant: the flags left are those of the indices below a bound, and the
 -- occurrences at the places of the others are written.
 -- Assumes nothing.
 use Rattle.std.proofs.Common.{◌+◌, ◌-◌, ◌*◌, ◌^◌, ◌<◌}
 use Rattle.matcher.specs.Tables.{chained}
 use Rattle.matcher.specs.Asked.{text_in, pattern_in}
 use Rattle.skip.proofs.SkipPlaces.{Sweeping}
-use Rattle.skip.proofs.WordsSteps.step.Given as goal
+use Rattle.skip.proofs.sweep.Given as goal
 
 abbrev pub invariant-loop-next : goal.invariant-loop-next
 invariant-loop-next l = (l.block.left < 2 ^ 64)
