@@ -7,10 +7,13 @@ method's arm of a `match` calls, and fails on
 - a function that it cannot find, and what it cannot read;
 - another method handed on, since what that one runs is not followed.
 
-A method `x.f()` is followed in every type that has an `f`, unless the function says of which type x is. It prints the
-functions that it followed. Then it tries itself on a copy of the sources: with an array put into each of these functions in
-turn, and other samples into a deep one. The last line is the number of checks; where something is found it is printed, and
-the exit status is 1.
+A method `x.f()` is followed in every type that has an `f`, unless the function says of which type x is. A function with types
+as parameters is followed for those that the call names, as in `by::<Plain>(..)`, or for those of what it hands over, and then
+`M::f(..)` in it is the type's own `f`. Where neither tells the type, `M::f` cannot be found.
+
+It prints the functions that it followed. Then it tries itself on a copy of the sources: with an array put into each of these
+functions in turn, and other samples into a deep one. The last line is the number of checks; where something is found it is
+printed, and the exit status is 1.
 
 usage: arrays.py [CRATES]     with CRATES, a folder of crates beside its crates.txt, only the first part is done"""
 
@@ -20,7 +23,8 @@ import subprocess
 import sys
 import tempfile
 
-from program import CLOSING, Constant, Function, Program, Type, Variant, begins_path, is_name, past, until
+from program import CLOSING, KEYWORDS, Constant, Function, Made, Program, Trait, Type, Variant
+from program import begins_path, between, is_name, past, past_angle, path_at, until
 from sources import CRATES, Unread
 
 STARTS = ["search::Mark::search", "capi::scan::mitongory_search"]
@@ -37,30 +41,46 @@ METHOD_OF, ASKED = "capi::scan::method_of", ["(", "method", ")"]
 # array or gives one.
 NUMBERS = ["u8", "u16", "u32", "u64", "usize", "i8", "i16", "i32", "i64", "isize"]
 OWN_TYPES = NUMBERS + ["bool", "f32", "f64", "self"]
-OF_NUMBERS = ["count_ones", "leading_zeros", "trailing_zeros", "from"]
-OF_VALUES = ["len", "get", "iter", "map_or", "fold", "div_ceil"]
+OF_NUMBERS = ["count_ones", "leading_zeros", "trailing_zeros", "from", "MAX"]
+OF_VALUES = ["len", "is_empty", "get", "iter", "find", "map_or", "fold", "div_ceil", "min", "saturating_add"]
 
-NOT_FOLLOWED = ["const", "enum", "extern", "fn", "impl", "mod", "static", "struct", "type", "unsafe", "use"]
+NOT_FOLLOWED = ["const", "enum", "extern", "fn", "impl", "mod", "static", "struct", "trait", "type", "unsafe", "use"]
 
 
 # ---- arrays in types and constants
 
 
-def array_in(program, module, tokens, of=None, seen=()):
+def array_in(program, module, tokens, of=None, given=(), seen=()):
     """The first token of a type, or of a list of types, by which it holds an array, or None. An array behind a reference counts
-    too, since it could be copied, and so does a type that cannot be found."""
+    too, since it could be copied, and so does a type that cannot be found. `given` tells what its parameters stand for. Where
+    that is not known, an array is found where it is named or made."""
     for i, t in enumerate(tokens):
         if t == "[" and until(tokens, i + 1, ";") < past(tokens, i) - 1:
             return t
         if begins_path(t) and tokens[i + 1 : i + 2] != [":"] and (i == 0 or tokens[i - 1] != "::"):
-            item = program.found(module, path_at(tokens, i), of)
+            path = path_at(tokens, i)
+            if t in given and len(path) == 1:
+                if made_of_array(program, given[t], seen):
+                    return t
+                continue
+            item = program.found(module, path, of)
+            if isinstance(item, Trait):
+                continue
             if holds_array(program, item, seen) if isinstance(item, Type) else t not in OWN_TYPES:
                 return t
     return None
 
 
 def holds_array(program, item, seen=()):
-    return item not in seen and array_in(program, item.module, item.parts, item, (*seen, item)) is not None
+    given = dict.fromkeys(item.params)
+    return item not in seen and array_in(program, item.module, item.parts, item, given, (*seen, item)) is not None
+
+
+def made_of_array(program, made, seen=()):
+    """Whether the type holds an array, or one that its parameters stand for."""
+    if made is None:
+        return False
+    return holds_array(program, made.item, seen) or any(made_of_array(program, arg, seen) for arg in made.args)
 
 
 def constant_array(program, item):
@@ -77,24 +97,97 @@ def constant_array(program, item):
     return False
 
 
-def path_at(tokens, i):
-    """The names from i on that `::` joins."""
-    path = [tokens[i]]
-    while i + 2 < len(tokens) and tokens[i + 1] == "::" and tokens[i + 2].kind == "word":
-        i += 2
-        path.append(tokens[i])
-    return path
+# ---- types of names
+
+
+def stripped(tokens):
+    """A type or a value without what only borrows it."""
+    i = 0
+    while i < len(tokens) and (tokens[i] in ("&", "&&", "mut", "*") or tokens[i].kind == "lifetime"):
+        i += 1
+    return tokens[i:]
+
+
+def resolved(program, module, tokens, of=None, given=()):
+    """The type that the tokens name, or None where they do not, or where that is not known."""
+    tokens = stripped(tokens)
+    if not tokens or not begins_path(tokens[0]):
+        return None
+    path = path_at(tokens, 0)
+    end = 2 * len(path) - 1
+    if len(path) == 1 and path[0] in given:
+        return given[path[0]] if end == len(tokens) else None
+    if path == ["Self"]:
+        return of if end == len(tokens) else None
+    item = program.found(module, path, of.item if of else None)
+    if not isinstance(item, Type) or item.alias or not program.is_whole(tokens):
+        return None
+    args = [resolved(program, module, part, of, given) for part in between(tokens[end:])]
+    return Made(item, tuple(args) if len(args) == len(item.params) else (None,) * len(item.params))
+
+
+def stand_for(program, module, tokens, made, args):
+    """Notes which types the parameters in a type of a module stand for where it is the type `made`."""
+    tokens = stripped(tokens)
+    if made is None or not tokens:
+        return
+    if len(tokens) == 1 and tokens[0] in args:
+        args[tokens[0]] = args[tokens[0]] or made
+    elif begins_path(tokens[0]) and program.is_whole(tokens):
+        path = path_at(tokens, 0)
+        if program.found(module, path) is made.item:
+            for part, arg in zip(between(tokens[2 * len(path) - 1 :]), made.args):
+                stand_for(program, module, part, arg, args)
+
+
+def zip_same(takes, values):
+    """What a function takes with what it is handed, where the commas tell that: those of a closure may not."""
+    return list(zip(takes, values)) if len(takes) == len(values) else []
+
+
+def begins_closure(tokens, i):
+    """Whether the `|` at i may stand where a value begins."""
+    before = tokens[i - 1]
+    return before in KEYWORDS or before.kind == "mark" and before not in (")", "]")
+
+
+def patterns(tokens):
+    """All patterns of a body, each with the tokens of its type, if they are written, and of the value that it is for. More may
+    be taken for a pattern, and then fewer types are known."""
+    for i, t in enumerate(tokens):
+        if t == "let":
+            colon = until(tokens, i + 1, ":=;")
+            equals = until(tokens, colon, "=;")
+            end = until(tokens, equals, ["{"] if tokens[i - 1] in ("if", "while") else ["else", ";"])
+            yield tokens[i + 1 : colon], tokens[colon + 1 : equals], tokens[equals + 1 : end]
+        elif t == "for" and tokens[i + 1] != "<":
+            yield tokens[i + 1 : until(tokens, i, ["in"])], [], []
+        elif t == "match":
+            start = until(tokens, i + 1, "{")
+            at, end = start + 1, past(tokens, start) - 1
+            while at < end:
+                arrow = until(tokens[:end], at, ["=>"])
+                after = past(tokens, arrow + 1) if tokens[arrow + 1] == "{" else until(tokens[:end], arrow + 1, [",", "=>"])
+                if arrow == end or tokens[after] == "=>":
+                    yield tokens[at:end], [], []
+                    break
+                yield tokens[at : until(tokens[:arrow], at, ["if"])], [], tokens[i + 1 : start]
+                at = after + 1 if tokens[after] == "," else after
+        elif t == "|" and begins_closure(tokens, i):
+            yield tokens[i + 1 : until(tokens, i + 1, "|")], [], []
 
 
 # ---- one function
 
 
 class Reader:
-    """What a function calls, and what it may not have."""
+    """What a function calls, and what it may not have. `of` is the type that it is a function of, and `given` what its
+    parameters stand for that are types, or None where that is not known."""
 
-    def __init__(self, program, function):
+    def __init__(self, program, function, of, given):
         self.program, self.function = program, function
-        self.module, self.of = function.module, function.of
+        self.module, self.of, self.given = function.module, of, given
+        self.item = of.item if of else None
         self.calls, self.faults = [], []
         self.bound = {"self": {self.of}}
 
@@ -103,49 +196,80 @@ class Reader:
 
     def read(self):
         signature, body = self.function.signature, self.function.body
-        held = array_in(self.program, self.module, signature, self.of)
-        if held or "self" in signature and holds_array(self.program, self.of):
+        held = array_in(self.program, self.module, signature, self.item, self.given)
+        if held or self.item and "self" in signature and holds_array(self.program, self.item):
             self.fault(held or signature[0], "an array taken or given")
         for name, path in self.module.uses.items():
             if self.program.found(self.module, [name]) is None:
                 self.fault(name, "cannot find %s, which is used," % "::".join(path))
-        for tokens in (signature, body):
-            for i in range(len(tokens)):
-                self.bind(tokens, i)
+        self.bind(body)
         self.code(body)
         return self
 
+    def found(self, path):
+        """What a path means here. By a parameter that is a type it means what it means by the type."""
+        if path[0] in self.given:
+            made = self.given[path[0]]
+            at = made.item if made else None
+            for k, name in enumerate(path[1:]):
+                at = self.program.member(at, name, last=k == len(path) - 2)
+            return at
+        return self.program.found(self.module, path, self.item)
+
     # the types of names
 
-    def bind(self, tokens, i):
-        """Notes what is said of a name's type: `x: T` in the signature, T::V(x) of a variant that holds one value, and of any
-        other name that a `let`, a `for` or a pattern binds, nothing."""
-        t = tokens[i]
-        if tokens is self.function.signature:
-            if is_name(t) and tokens[i + 1 : i + 2] == [":"]:
-                end = until(tokens[: past(tokens, 0) - 1], i, ",")
-                self.bound.setdefault(t, set()).add(self.type_of(self.module, tokens[i + 2 : end]))
-        elif is_name(t) and tokens[i - 1] not in (".", "::") and tokens[i + 1 : i + 2] not in (["("], ["::"], ["{"]):
-            if tokens[i - 1] == "(" and tokens[i + 1] == ")" and is_name(tokens[i - 2]):
-                start = i - 2
-                while tokens[start - 1] == "::":
-                    start -= 2
-                item = self.program.found(self.module, path_at(tokens, start), self.of)
-                if not isinstance(item, Function):
-                    held = self.type_of(item.of.module, item.parts) if isinstance(item, Variant) else None
-                    self.bound.setdefault(t, set()).add(held)
-            elif self.binds(tokens, i):
-                self.bound.setdefault(t, set()).add(None)
+    def bind(self, body):
+        """Notes of which types each name may be: `x: T` in the signature and of a `let`, S { .. } for a `let`, what a variant
+        holds, and of any other name in a pattern, no known one."""
+        for part in self.function.takes():
+            colon = until(part, 0, ":")
+            held = self.held(part[:colon], self.resolved(part[colon + 1 :]))
+            for t in part[:colon]:
+                if is_name(t) and t != "self":
+                    self.bound.setdefault(t, set()).add(held.get(t))
+        known = {name: types for name, types in self.bound.items() if len(types) == 1}
+        all_patterns = list(patterns(body))
+        for pattern, _, _ in all_patterns:
+            for t in pattern:
+                known.pop(t, None)
+        for pattern, typed, value in all_patterns:
+            held = self.held(pattern, self.resolved(typed) or self.value(stripped(value), known))
+            for t in pattern:
+                if is_name(t):
+                    self.bound.setdefault(t, set()).add(held.get(t))
 
-    def binds(self, tokens, i):
-        """Whether a name may be bound at i: after `let`, `mut` or `for`, before `=>`, or in a pattern of several values."""
-        return tokens[i - 1] in ("let", "mut", "for", ",", "(", "|", "{", ":") or tokens[i + 1] == "=>"
+    def resolved(self, tokens):
+        return resolved(self.program, self.module, tokens, self.of, self.given)
 
-    def type_of(self, module, tokens):
-        """The type that the tokens name, or None where they are no path."""
-        path = path_at(tokens, 0) if tokens else []
-        item = self.program.found(module, path) if path and len(tokens) == 2 * len(path) - 1 else None
-        return item if isinstance(item, Type) else None
+    def value(self, tokens, known):
+        """The type of a value, which is a name or S { .. }, or None."""
+        if len(tokens) == 1:
+            types = known.get(tokens[0], {None})
+            return next(iter(types)) if len(types) == 1 else None
+        if not tokens or not begins_path(tokens[0]):
+            return None
+        start = until(tokens, 0, "{(")
+        if start == len(tokens) or past(tokens, start) != len(tokens):
+            return None
+        named_by = tokens[:start]
+        end = 2 * len(path_at(tokens, 0)) - 1
+        return self.resolved(named_by[:end] + named_by[end + 1 :] if named_by[end:][:1] == ["::"] else named_by)
+
+    def held(self, pattern, made):
+        """The types of the names in a pattern for a value of that type, where they are known."""
+        pattern = [t for t in pattern if t not in ("mut", "&")]
+        if len(pattern) == 1:
+            return {pattern[0]: made}
+        path = path_at(pattern, 0) if pattern and begins_path(pattern[0]) else []
+        start = 2 * len(path) - 1
+        if not path or pattern[start : start + 1] != ["("] or past(pattern, start) != len(pattern):
+            return {}
+        variant = self.found(path)
+        if not isinstance(variant, Variant):
+            return {}
+        args = made.args if made and made.item is variant.of else [None] * len(variant.of.params)
+        given = dict(zip(variant.of.params, args))
+        return self.held(pattern[start + 1 : -1], resolved(self.program, variant.of.module, variant.parts, None, given))
 
     # the code
 
@@ -166,9 +290,9 @@ class Reader:
         elif t in NOT_FOLLOWED:
             self.fault(t, "cannot read %s" % t)
         elif is_name(t) and before == ".":
-            if i + 1 < len(tokens) and tokens[i + 1] == "(":
-                types = self.bound.get(tokens[i - 2], {None}) if tokens[i - 3] != "." else {None}
-                self.method(t, *(types if len(types) == 1 else [None]))
+            return self.method(tokens, i)
+        elif begins_path(t) and before == "::":
+            self.fault(t, "cannot read ::%s" % t)
         elif begins_path(t):
             return self.path(tokens, i)
         return i + 1
@@ -176,7 +300,7 @@ class Reader:
     def indexes(self, tokens, i):
         """Whether the bracket at i follows a value."""
         before = tokens[i - 1] if i else tokens[i]
-        return is_name(before) or before in (")", "]") or before.kind == "number" and tokens[i - 2] == "."
+        return is_name(before) or before in (")", "]", "?") or before.kind == "number" and tokens[i - 2] == "."
 
     def let(self, tokens, i):
         """The pattern of a `let` is read like other code, and after it a type that it may have."""
@@ -185,41 +309,85 @@ class Reader:
         if colon == len(tokens) or tokens[colon] != ":":
             return colon
         end = until(tokens, colon, "=;")
-        held = array_in(self.program, self.module, tokens[colon + 1 : end], self.of)
+        held = array_in(self.program, self.module, tokens[colon + 1 : end], self.item, self.given)
         if held:
             self.fault(held, "a local array")
         return end
 
-    def method(self, name, of):
-        found = self.program.methods(self.module.path[0], name, of)
-        self.calls += found
+    def method(self, tokens, i):
+        """A field, or a method with what is known of the value's type."""
+        name = tokens[i]
+        end, named_types = self.angles(tokens, i + 1)
+        if tokens[end : end + 1] != ["("]:
+            return end
+        types = self.bound.get(tokens[i - 2], {None}) if tokens[i - 3] not in (".", "::") else {None}
+        of = next(iter(types)) if len(types) == 1 else None
+        found = self.program.methods(self.module.path[0], name, of.item if of else None)
+        for function, item in found:
+            handed = zip_same(function.takes()[1:], between(tokens[end : past(tokens, end)], values=True))
+            self.call(function, of or Made(item, (None,) * len(item.params)), named_types, handed)
         if not found and name not in OF_VALUES:
             self.fault(name, "cannot find .%s()" % name)
+        return end
+
+    def angles(self, tokens, i):
+        """Where to go on after the types that are named at i, as `::<T>`, and these types, or None."""
+        if tokens[i : i + 2] != ["::", "<"]:
+            return i, None
+        end = past_angle(tokens, i + 1)
+        held = array_in(self.program, self.module, tokens[i + 1 : end], self.item, self.given)
+        if held:
+            self.fault(held, "an array as a parameter")
+        return end, [self.resolved(part) for part in between(tokens[i + 1 : end])]
+
+    def call(self, function, of, named_types, handed):
+        """Notes a call, with what the parameters of the function stand for that are types, by the call."""
+        given = dict.fromkeys(function.params)
+        if of:
+            stand_for(self.program, function.module, function.head, of, given)
+        if named_types:
+            given.update(zip(function.own, named_types))
+        known = {name: types for name, types in self.bound.items() if len(types) == 1}
+        for part, value in handed:
+            stand_for(self.program, function.module, part[until(part, 0, ":") + 1 :], self.value(stripped(value), known), given)
+        self.calls.append((function, of, tuple(given.items())))
 
     def path(self, tokens, i):
         path = path_at(tokens, i)
-        end = i + 2 * len(path) - 1
+        end, named_types = self.angles(tokens, i + 2 * len(path) - 1)
         name, follows = "::".join(path), tokens[end] if end < len(tokens) else ""
         if follows == "!" and tokens[end + 1] in CLOSING:
             self.fault(tokens[i], "cannot read %s!" % name)
             return end
-        item = self.program.found(self.module, path, self.of)
-        if isinstance(item, Function):
-            self.calls.append(item)
-            if item.full == METHOD_OF and not self.asked(tokens[end : end + 3]):
+        item = self.found(path)
+        functions = item if isinstance(item, list) else [item] if isinstance(item, Function) else []
+        for function in functions:
+            of = self.owner(path) if function.of else None
+            values = between(tokens[end : past(tokens, end)], values=True) if follows == "(" else []
+            self.call(function, of, named_types, zip_same(function.takes(), values))
+            if function.full == METHOD_OF and not self.asked(tokens[end : end + 3]):
                 self.fault(tokens[i], "another method asked for")
-        elif isinstance(item, Variant) and item.of.full == METHOD:
+        if isinstance(item, Variant) and item.of.full == METHOD:
             return self.chosen(tokens, i, end)
-        elif isinstance(item, (Type, Variant)):
+        if isinstance(item, (Type, Variant)):
             held = item if isinstance(item, Type) else item.of
             if holds_array(self.program, held):
                 self.fault(tokens[i], "%s, which holds an array," % name)
         elif isinstance(item, Constant):
             if constant_array(self.program, item):
                 self.fault(tokens[i], "the array %s" % name)
-        elif self.unknown(path, follows):
+        elif not functions and self.unknown(path, follows):
             self.fault(tokens[i], "cannot find %s" % name)
         return end
+
+    def owner(self, path):
+        """The type before the last name of a path."""
+        if path[0] in self.given and len(path) == 2:
+            return self.given[path[0]]
+        if path[0] == "Self" and len(path) == 2:
+            return self.of
+        item = self.program.found(self.module, path[:-1], self.item) if len(path) > 1 else None
+        return Made(item, (None,) * len(item.params)) if isinstance(item, Type) else None
 
     def unknown(self, path, follows):
         """Whether a name that no item has must be one: a path, or a call. Other names are locals, fields and numbers' types."""
@@ -229,9 +397,11 @@ class Reader:
 
     def asked(self, tokens):
         """Whether these are the argument that the caller handed over, and no other under its name."""
-        body = self.function.body
-        stored = [t for i, t in enumerate(body) if t == ASKED[1] and (body[i - 1] in ("let", "mut") or body[i + 1] == "=")]
-        return tokens == ASKED and not stored
+        body, name = self.function.body, ASKED[1]
+        stored = [t for i, t in enumerate(body) if t == name and (body[i - 1] in ("let", "mut") or body[i + 1] == "=")]
+        again = any(name in pattern for pattern, _, _ in patterns(body))
+        taken = [part for part in self.function.takes() if part[:2] == [name, ":"]]
+        return tokens == ASKED and not stored and not again and len(taken) == 1
 
     def chosen(self, tokens, i, end):
         """A method by its name: an arm of a `match` that is for others alone is not taken, and no other is handed on."""
@@ -252,7 +422,7 @@ class Reader:
 
     def is_ours(self, path):
         """Whether a pattern is for the plain method, or may be."""
-        item = self.program.found(self.module, path, self.of)
+        item = self.program.found(self.module, path, self.item)
         return not isinstance(item, Variant) or item.of.full != METHOD or item.name == OURS
 
 
@@ -269,26 +439,27 @@ def named(program, full):
 def followed(crates):
     """The functions that are reached, each with how many calls deep it is, and what they may not have."""
     program = Program(crates, TOPS)
-    depths, todo, faults = {}, [], []
+    depths, seen, todo, faults = {}, set(), [], []
 
-    def reach(function, depth):
-        if function not in depths:
-            depths[function] = depth
-            todo.append(function)
+    def reach(call, depth):
+        depths.setdefault(call[0], depth)
+        if call not in seen:
+            seen.add(call)
+            todo.append(call)
 
     for start in STARTS:
         function = named(program, start)
         if function:
-            reach(function, 0)
+            reach((function, Made(function.of, ()) if function.of else None, ()), 0)
         else:
             faults.append("cannot find %s" % start)
     while todo:
-        function = todo.pop(0)
-        reader = Reader(program, function).read()
+        function, of, given = todo.pop(0)
+        reader = Reader(program, function, of, dict(given)).read()
         faults += reader.faults
-        for called in reader.calls:
-            reach(called, depths[function] + 1)
-    return depths, faults
+        for call in reader.calls:
+            reach(call, depths[function] + 1)
+    return depths, list(dict.fromkeys(faults))
 
 
 def judged(crates):
@@ -310,6 +481,7 @@ DEEP = "bits::load::word_inside"
 # dashes goes to the end of its file.
 ALIAS_OF_ARRAY = "type Four = [u8; 4];"
 HOLDS_ARRAY = "struct Four {\n    at: [u8; 4],\n}\n"
+GIVEN, TAKEN = "an array taken or given in bits::load::made", "an array taken or given in bits::load::taken"
 WRONG = [
     # arrays as expressions
     ("let planted = [1u8, 2, 3];", "an array: [1u8,2,3]"),
@@ -324,10 +496,16 @@ WRONG = [
     ("let planted: Four = f;\n---\n" + ALIAS_OF_ARRAY, "a local array"),
     ("let planted: super::load::Four = f;\n---\n" + ALIAS_OF_ARRAY, "a local array"),
     ("let planted: std::Four = f;", "a local array"),
-    ("let planted = made();\n---\nfn made() -> [u8; 4] {\n    made()\n}", "an array taken or given in bits::load::made"),
-    ("let planted = taken(f);\n---\nfn taken(a: [u8; 4]) -> u8 {\n    a[0]\n}", "an array taken or given in bits::load::taken"),
-    ("let planted = taken(f);\n---\nfn taken(a: &mut [u8; 4]) {\n    let b = *a;\n}", "an array taken or given in bits::load::taken"),
+    ("let planted: Result<[u8; 4], u8> = f;", "a local array"),
+    ("let planted: (u8, Option<Four>) = f;\n---\n" + ALIAS_OF_ARRAY, "a local array"),
+    ("let planted: Many<Four> = f;\n---\nstruct Many<T> {\n    at: T,\n}\n" + HOLDS_ARRAY, "a local array"),
+    ("let planted = made();\n---\nfn made() -> [u8; 4] {\n    made()\n}", GIVEN),
+    ("let planted = made();\n---\nfn made() -> Option<Four> {\n    None\n}\n" + HOLDS_ARRAY, GIVEN),
+    ("let planted = taken(f);\n---\nfn taken(a: [u8; 4]) -> u8 {\n    a[0]\n}", TAKEN),
+    ("let planted = taken(f);\n---\nfn taken(a: &mut [u8; 4]) {\n    let b = *a;\n}", TAKEN),
+    ("let planted = taken(f);\n---\nfn taken<const N: usize>(a: &[u8; N]) {}", TAKEN),
     ("let planted = Four { at: f };\n---\n" + HOLDS_ARRAY, "Four, which holds an array,"),
+    ("let planted = Many::<u8> { at: f };\n---\nstruct Many<T> {\n    at: [T; 4],\n}\n", "Many, which holds an array,"),
     ("let planted = Held::Some(f);\n---\nenum Held {\n    Some(Four),\n}\n" + HOLDS_ARRAY, "Held::Some, which holds an array,"),
     ("let planted = f.sum();\n---\nimpl Four {\n    fn sum(self) {}\n}\n" + HOLDS_ARRAY, "in bits::load::Four::sum"),
     # arrays in constants
@@ -343,20 +521,47 @@ WRONG = [
         "impl ByteNo {\n    fn four(self) {\n        [0u8; 4];\n    }\n}\nimpl Place {\n    fn four(self) {}\n}",
         "in bits::ByteNo::four",
     ),
+    # arrays in closures, patterns and loops
+    ("let planted = f.map_or(0, |x| [x, x][0]);", "an array: [x,x]"),
+    ("let planted = f.map_or(0, |x: [u8; 4]| x);", "an array: [u8;4]"),
+    ("let planted = f.map_or(0, |x: &Four| x);\n---\n" + ALIAS_OF_ARRAY, "Four, which holds an array,"),
+    ("let planted = f.find(four);\n---\nfn four(x: u8) -> bool {\n    [x; 4][0]\n}", "an array: [x;4] in bits::load::four"),
+    ("let planted = Held { b: [0u8; 4][0], ..f };\n---\nstruct Held {\n    a: u8,\n    b: u8,\n}", "an array: [0u8;4]"),
+    ("for x in [1u8, 2] {}", "an array: [1u8,2]"),
+    ("for x in 0..[0u8; 4][0] {}", "an array: [0u8;4]"),
+    ("if let Some([a, b]) = f {}", "an array: [a,b]"),
+    ("let Some(x) = f else {\n        return [0u8; 4][0];\n    };", "an array: [0u8;4]"),
     # what cannot be found or read
     ("let planted = nowhere(f);", "cannot find nowhere"),
+    ("let planted = self::nowhere(f);", "cannot find self::nowhere"),
     ("let planted = crate::bit::nowhere(f);", "cannot find crate::bit::nowhere"),
     ("let planted = std::num::wrapping_add_u32(f, f);", "cannot find std::num::wrapping_add_u32"),
+    ("let planted = std::array::from_fn(f);", "cannot find std::array::from_fn"),
     ("let planted = u64::swap_bytes(f);", "cannot find u64::swap_bytes"),
     ("let planted = u64::from_be_bytes(f);", "cannot find u64::from_be_bytes"),
+    ("let planted = Default::default();", "cannot find Default::default"),
+    ("let planted = Option::take(f);", "cannot find Option::take"),
+    ("let planted = f.to_be_bytes();", "cannot find .to_be_bytes()"),
     ("let planted = f.first_chunk();", "cannot find .first_chunk()"),
+    ("let planted = f.iter().copied();", "cannot find .copied()"),
     ("let planted = f.iter().fold(0, |x, y| nowhere(x, y));", "cannot find nowhere"),
     ("let planted = f.nowhere();", "cannot find .nowhere()"),
+    ("let planted = |x| x;\n    planted(f);", "cannot find planted"),
+    ("while let Some(x) = f.nowhere() {}", "cannot find .nowhere()"),
+    ("match f {\n        Ok(x) if nowhere(x) => 0,\n        _ => 1,\n    };", "cannot find nowhere"),
+    ("match f {\n        Ok(x) => nowhere(x)?,\n        Err(_) => 1,\n    };", "cannot find nowhere"),
     ("let planted = TABLE;\n---\nuse std::TABLE;", "cannot find std::TABLE, which is used,"),
     ("let planted = TABLE;\n---\nuse crate::nowhere::TABLE;", "cannot find crate::nowhere::TABLE, which is used,"),
+    ("let planted = f;\n---\nimpl Drop for Place {\n    fn drop(&mut self) {}\n}", "cannot tell what calls Drop"),
+    ("let planted = f;\n---\nimpl std::ops::Add for Place {\n    fn add(self) {}\n}", "cannot tell what calls std :: ops :: Add"),
     ("assert!(f);", "cannot read assert!"),
     ("const FOUR: [u8; 4] = [0; 4];", "cannot read const"),
+    ("trait Four {\n        fn four() {}\n    }", "cannot read trait"),
     ("let ghost = [0u8; 16];", "ghost that is no clause"),
+    ("let ghost = { [0u8; 16] };", "ghost that is no clause"),
+    ("if ghost {\n        [0u8; 16];\n    }", "ghost that is no clause"),
+    ("for ghost in f {\n        [0u8; 16];\n    }", "ghost that is no clause"),
+    ("let planted =\n        ghost.map_or(0, |x| { [0u8; 16][0] });", "ghost that is no clause"),
     ("let ensures = { [0u8; 16] };", "ensures that is no clause"),
     ("/* see http://x */ let planted = [0u8; 16];", "a comment in /* */"),
 ]
@@ -369,38 +574,160 @@ RIGHT = [
     "let planted = u64::trailing_zeros(f) + g.len();",
     "let planted = ByteNo(1).place().byte();",
     "let planted = f.get(g).map_or(0, |x| u64::from(*x));",
+    "let Some(planted) = (f..8).find(|i| g & 1 == *i) else {\n        return u64::MAX;\n    };",
+    "for x in 0..f.min(8) {\n        let planted = x?[1];\n    }",
     "let planted = g;\n---\nfn not_called() -> [u8; 4] {\n    [0u8; 4]\n}",
+    "let planted = f;\n---\nstruct Held {\n    a: u8,\n    pub ghost four: { [0u8; 4] } by { [0u8; 4] },\n}",
+    "let planted = f;\n---\nimpl Place {\n    ghost four = { [0u8; 4] };\n}",
 ]
 
-# A function that no plain call runs may have one.
-ANOTHER = "hash::step"
+# The same of functions with a type as parameter. Each is put before these: of two types that have a trait, the functions of the
+# first one have arrays.
+KINDS = """
+use std::marker::PhantomData;
+trait Kind {
+    fn made(x: u8) -> u8;
+    fn told(&self) -> u8;
+}
+struct First;
+impl Kind for First {
+    fn made(x: u8) -> u8 {
+        [x; 4][0]
+    }
+    fn told(&self) -> u8 {
+        [0u8; 4][0]
+    }
+}
+struct Second;
+impl Kind for Second {
+    fn made(x: u8) -> u8 {
+        x
+    }
+    fn told(&self) -> u8 {
+        0
+    }
+}
+struct Of<K: Kind> {
+    of: PhantomData<K>,
+}
+fn by<K: Kind>(x: u8) -> u8 {
+    K::made(x)
+}
+fn through<K: Kind>(x: &Of<K>, y: u8) -> u8 {
+    by::<K>(y)
+}
+"""
+MADE, TOLD = "an array: [x;4] in bits::load::First::made", "an array: [0u8;4] in bits::load::First::told"
+
+METHOD_OF_BOTH = "impl<K: Kind> Of<K> {\n    fn all(&self) {\n        by::<K>(1);\n    }\n}\n"
+OTHER = "trait Other {\n    fn four(x: u8) {\n        [x; 4];\n    }\n    fn five(&self) {\n        Self::made(1);\n    }\n}\n"
+
+# What one of these says of the first type must be found, and of the second one nothing.
+OF_EITHER = [
+    ("let planted = by::<First>(f);\n---\n", MADE),
+    ("let planted = First::made(f);\n---\n", MADE),
+    ("let planted = through(&Of::<First> { of: PhantomData }, f);\n---\n", MADE),
+    ("let held = Of::<First> { of: PhantomData };\n    let planted = through(&held, u8::from(f < g));\n---\n", MADE),
+    ("let held: &Of<First> = g;\n    let planted = through(held, f << 1);\n---\n", MADE),
+    ("let planted = put(f);\n---\nfn put(x: &Of<First>) {\n    through(x, 1)\n}\n", MADE),
+    ("let planted = put(f);\n---\nfn put(x: &Of<First>) {\n    x.all();\n}\n" + METHOD_OF_BOTH, MADE),
+    ("let planted = put(f);\n---\nfn put(x: First) {\n    x.told()\n}\n", TOLD),
+    ("let planted = put(f);\n---\nfn put(x: Option<First>) {\n    if let Some(y) = x { y.told(); }\n}\n", TOLD),
+    ("let planted = put(f);\n---\nfn put(x: Result<u8, First>) {\n    match x { Ok(z) => z, Err(y) => y.told() }\n}\n", TOLD),
+]
+
+# Put into this, each calls a function of x that may be of another type than the one that x had first.
+PUT = "let planted = put(f, g);\n---\nfn put(x: Second, y: u8) {\n    %s\n}\n"
+BOUND_AGAIN = [
+    "let x = y;\n    x.told()",
+    "for x in y {\n        x.told()\n    }",
+    "y.map_or(0, |x| x.told())",
+    "match y {\n        Some(x) if b => x.told(),\n        _ => 0,\n    }",
+    "if let Ok((x, _)) = y {\n        x.told()\n    }",
+]
+
+# And these must be found by their words.
+OF_KINDS = [(PUT % text, TOLD) for text in BOUND_AGAIN] + [
+    ("let planted = f.told();\n---\n", TOLD),
+    ("let planted = f.find(|x| x.told());\n---\n", TOLD),
+    ("let planted = told(f);\n---\nfn told<K: Kind>(x: &K) {\n    x.told();\n}\n", TOLD),
+    ("let planted = put(f);\n---\nfn put(Of(y): Second) {\n    y.told()\n}\n", TOLD),
+    ("let planted = Second::four(f);\n---\nimpl Other for Second {}\n" + OTHER, "in bits::load::Other::four"),
+    ("let planted = f.five();\n---\nimpl Other for First {}\n" + OTHER, MADE),
+    ("let planted = Of::f(f);\n---\nimpl Of<Second> {\n    fn f() {}\n}\nimpl Of<First> {\n    fn f() { by::<First>(1) }\n}\n", MADE),
+    ("let planted = by::<[u8; 4]>(f);\n---\n", "an array as a parameter"),
+    ("let planted = by::<Four>(f);\n---\n" + ALIAS_OF_ARRAY, "an array as a parameter"),
+    ("let planted = by::<Of<Four>>(f);\n---\n" + HOLDS_ARRAY, "an array as a parameter"),
+    ("let planted = by(f);\n---\n", "cannot find K::made"),
+    ("let planted = by::<u8>(f);\n---\n", "cannot find K::made"),
+    ("let planted = by::<Nowhere>(f);\n---\n", "cannot find K::made"),
+    ("let planted = f.all();\n---\n" + METHOD_OF_BOTH, "cannot find K::made"),
+    ("let planted = put(f, |x, y| x);\n---\nfn put<K: Kind>(x: &Of<K>, y: u8) {\n    K::made(y)\n}\n", "cannot find K::made"),
+    ("let planted = Second::nowhere(f);\n---\n", "cannot find Second::nowhere"),
+    ("let planted = Kind::made(f);\n---\n", "cannot find Kind::made"),
+    ("let planted = <Second as Kind>::made(f);\n---\n", "cannot read ::made"),
+    ("let planted = Of::<Second>::made(f);\n---\n", "cannot read ::made"),
+    ("let planted = f;\n---\nimpl<T: Kind> Kind for T {}\n", "cannot find T"),
+    ("let planted = f;\n---\nimpl Kind for [u8; 4] {}\n", "cannot find [ u8 ; 4 ]"),
+    ("let planted = f;\n---\ntype Other = First;\nimpl Other {}\n", "cannot find Other"),
+]
+WRONG += [(text + KINDS, words) for text, words in OF_EITHER + OF_KINDS]
+RIGHT += [text.replace("First", "Second") + KINDS for text, _ in OF_EITHER]
+
+# Functions that no plain call runs may have an array.
+OTHERS = [
+    "hash::Hash::step",
+    "hash::Hash::advance",
+    "skip::Skip::prepare",
+    "wide::Wide::step",
+    "tail::Tail::advance",
+    "matcher::query::Query::stands",
+    "eight::Refusal::number",
+    "set::search_set",
+]
 
 # What stands in two sources, and what is put in its place.
-ARM = "Method::Hash => hash::step(text, pattern, fixed, known, cells, s, list, had),"
-OURS_IN_USE = ("use rules::Method;", "use rules::Method;\nuse rules::Method::Plain as Ours;")
-NAMED = "let named = method_of(method);\n    let Named::Known(known) = named else {\n        return UNKNOWN_METHOD;\n    };\n"
+ARM = "Method::Hash => by::<Hash>(mark, text, n, pattern, budget, list, scratch),"
+PLAIN_ARM = "Method::Plain => by::<Plain>("
+USE = "use bits::Place;"
+OURS_IN_USE = (USE, USE + "\nuse rules::Method::Plain as Ours;")
+NAMED = "let Some(known) = method_of(method) else {\n        return UNKNOWN_METHOD;\n    };\n"
 NAMED_IN_SEARCH = NAMED + "    if answer.len() < 4 {"
-KNOWN = "    let known ="
+CHOICE = "    match method {"
 ELSE = "    let Method::Plain = method else {\n        return nowhere();\n    };\n"
 
+# Put in place of what asks for the method that the caller's number names, each asks for another.
+ASKS_ANOTHER = [
+    "method_of(method + 1);\n    if b {",
+    "let method = 1;\n    method_of(method);\n    if b {",
+    "for method in 0..5 {\n        method_of(method);\n    }\n    if b {",
+    "let found = f.map_or(0, |method| method_of(method));\n    if b {",
+]
+
 # Elsewhere: a file, what stands there with what is put in its place, and what must be found, if anything.
-ELSEWHERE = [
-    ("methods/src/lib.rt", [(ARM, "Method::Hash => nowhere(),")], None),
-    ("methods/src/lib.rt", [(ARM, "Method::Hash => {\n            nowhere()\n        }")], None),
-    ("methods/src/lib.rt", [(ARM, "Method::Hash | rules::Method::Plain => nowhere(),")], "cannot find nowhere"),
-    ("methods/src/lib.rt", [(ARM, "Method::Hash | _ => nowhere(),")], "cannot find nowhere"),
-    ("methods/src/lib.rt", [(ARM, "Method::Hash => if b { c } else { d }")], "cannot tell where the arm of Hash ends"),
-    ("methods/src/lib.rt", [("Plain => plain::step(", "Plain => plain::nowhere(")], "cannot find plain::nowhere"),
-    ("methods/src/lib.rt", [OURS_IN_USE, ("Method::Plain => plain::step(", "Ours => nowhere(")], "cannot find nowhere"),
-    ("methods/src/lib.rt", [("use rules::Method;", "use rules::Nowhere;")], "cannot find rules::Nowhere, which is used,"),
-    ("search/src/call.rt", [(KNOWN, "    let method = Method::Hash;\n" + KNOWN)], "another method, Hash, handed on"),
-    ("search/src/call.rt", [(KNOWN, ELSE + KNOWN)], "cannot find nowhere"),
-    ("capi/src/scan.rt", [(NAMED_IN_SEARCH, "method_of(method + 1);\n    if b {")], "another method asked for"),
-    ("capi/src/scan.rt", [(NAMED_IN_SEARCH, "let method = 1;\n    method_of(method);\n    if b {")], "another method asked for"),
+ELSEWHERE = [("capi/src/scan.rt", [(NAMED_IN_SEARCH, text)], "another method asked for") for text in ASKS_ANOTHER] + [
+    ("search/src/call.rt", [(ARM, "Method::Hash => nowhere(),")], None),
+    ("search/src/call.rt", [(ARM, "Method::Hash => {\n            nowhere()\n        }")], None),
+    ("search/src/call.rt", [(ARM, "Method::Hash | rules::Method::Plain => nowhere(),")], "cannot find nowhere"),
+    ("search/src/call.rt", [(ARM, "Method::Hash | _ => nowhere(),")], "cannot find nowhere"),
+    ("search/src/call.rt", [(ARM, "Method::Hash if nowhere() => 0,")], "another method, Hash, handed on"),
+    ("search/src/call.rt", [(ARM, "Method::Hash => if b { c } else { d }")], "cannot tell where the arm of Hash ends"),
+    ("search/src/call.rt", [(PLAIN_ARM, "Method::Plain => plain::nowhere(")], "cannot find plain::nowhere"),
+    ("search/src/call.rt", [(PLAIN_ARM, "Method::Plain => by::<Nowhere>(")], "cannot find M::prepare"),
+    ("search/src/call.rt", [(PLAIN_ARM, "Method::Plain => by(")], "cannot find M::prepare"),
+    ("search/src/call.rt", [OURS_IN_USE, (PLAIN_ARM, "Ours => nowhere(")], "cannot find nowhere"),
+    ("search/src/call.rt", [("M::prepare(", "M::nowhere(")], "cannot find M::nowhere"),
+    ("search/src/call.rt", [("M::advance(search, ", "Nowhere::advance(search, ")], "cannot find Nowhere::advance"),
+    ("search/src/call.rt", [(USE, USE + "\nuse rules::Nowhere;")], "cannot find rules::Nowhere, which is used,"),
+    ("search/src/call.rt", [(CHOICE, "    let method = Method::Hash;\n" + CHOICE)], "another method, Hash, handed on"),
+    ("search/src/call.rt", [(CHOICE, ELSE + CHOICE)], "cannot find nowhere"),
+    ("search/src/lib.rt", [("use rules::Method;", "use rules::Nowhere;")], "cannot find rules::Nowhere, which is used,"),
     ("search/src/lib.rt", [("pub fn search(", "pub fn find(")], "cannot find search::Mark::search"),
+    ("search/src/lib.rt", [("M::step(search, ", "M::nowhere(search, ")], "cannot find M::nowhere"),
+    ("plain/src/lib.rt", [("impl Matcher for Plain", "impl Nowhere for Plain")], "cannot tell what calls Nowhere"),
     ("plain/src/lib.rt", [("use bits::{ByteNo, Place, load};", "use bits::{ByteNo, Place, loads};")], "cannot find load::word_near_end"),
     ("bits/src/load.rt", [("fn join(", "fn joined(")], "cannot find join"),
-    ("bits/src/lib.rt", [("impl Place {", "trait Held {}\nimpl Place {")], "no item begins with trait"),
+    ("bits/src/lib.rt", [("impl Place {", "macro_rules! held {}\nimpl Place {")], "no item begins with macro_rules"),
 ]
 
 
@@ -459,7 +786,9 @@ def samples(copy, functions, deep):
         yield planted(copy, deep, text), words, False
     for text in RIGHT:
         yield planted(copy, deep, text), None, False
-    yield planted(copy, named(Program(copy, TOPS), ANOTHER), PLANT), None, False
+    program = Program(copy, TOPS)
+    for other in OTHERS:
+        yield planted(copy, named(program, other), PLANT), None, False
     for file, pairs, words in ELSEWHERE:
         path = os.path.join(copy, *file.split("/"))
         with open(path, encoding="utf-8") as source:

@@ -1,6 +1,7 @@
 """Reads the crates of a repository as modules, types, constants and functions, and finds what a name in one of them means.
 It knows as much of Rattle as the library's sources use, and fails on what it cannot read."""
 
+import collections
 import functools
 import os
 import re
@@ -27,7 +28,7 @@ TOKEN = re.compile(
 )
 
 KEYWORDS = set("as break const continue else enum extern false fn for if impl in let loop match mod mut pub return".split())
-KEYWORDS |= set("static struct super true type unsafe use while".split())
+KEYWORDS |= set("move static struct super trait true type unsafe use while".split())
 
 CLOSING = {"(": ")", "[": "]", "{": "}"}
 
@@ -60,6 +61,15 @@ def begins_path(token):
     return is_name(token) or token == "super"
 
 
+def path_at(tokens, i):
+    """The names from i on that `::` joins."""
+    path = [tokens[i]]
+    while i + 2 < len(tokens) and tokens[i + 1] == "::" and tokens[i + 2].kind == "word":
+        i += 2
+        path.append(tokens[i])
+    return path
+
+
 def past(tokens, i):
     """The index after the bracket that closes the one at i."""
     open_ones = []
@@ -81,6 +91,37 @@ def until(tokens, i, ends):
     return i
 
 
+def past_angle(tokens, i):
+    """The index after the `>` that closes the `<` at i."""
+    depth, j = 0, i
+    while j < len(tokens):
+        depth += {"<": 1, ">": -1}.get(tokens[j], 0)
+        j = past(tokens, j) if tokens[j].kind == "mark" and tokens[j] in CLOSING else j + 1
+        if not depth:
+            return j
+    raise Unread("line %d: %s is not closed" % (tokens[i].line, tokens[i]))
+
+
+def between(tokens, values=False):
+    """The parts between the commas of `<..>` or `(..)`, but for lifetimes. Among values a `<` is a bracket only after `::`."""
+    parts, at, i = [], 1, 1
+    while i < len(tokens):
+        t = tokens[i]
+        if i == len(tokens) - 1 or t == ",":
+            parts.append(tokens[at:i])
+            at = i + 1
+        if t == "<" and (not values or tokens[i - 1] == "::"):
+            i = past_angle(tokens, i)
+        else:
+            i = past(tokens, i) if t.kind == "mark" and t in CLOSING else i + 1
+    return [part for part in parts if part and part[0].kind != "lifetime"]
+
+
+def names_in(angles):
+    """The names of the parameters that `<..>` declares, but for lifetimes."""
+    return [part[1] if part[0] == "const" else part[0] for part in between(angles)]
+
+
 # ---- items
 
 
@@ -97,11 +138,31 @@ class Module:
 
 
 class Type(Item):
-    """A struct, an enum or another name for a type: what it is made of, what each variant holds, and its methods."""
+    """A struct, an enum or another name for a type, its alias: its parameters, what it is made of, what each variant holds, and
+    its functions, of which several may have one name in several `impl`s. Each of its traits comes with the names of the functions
+    that its `impl` has: others are the trait's own."""
 
-    def __init__(self, name, module, line, parts, variants=()):
+    def __init__(self, name, module, line, params, parts, variants=(), alias=False):
         super().__init__(name, module, line)
-        self.parts, self.variants, self.methods, self.constants = parts, dict(variants), {}, {}
+        self.alias = alias
+        self.params, self.parts, self.variants, self.constants = params, parts, dict(variants), {}
+        self.methods, self.traits = {}, []
+
+    def functions(self, name):
+        own = [trait.methods[name] for trait, names in self.traits if name in trait.methods and name not in names]
+        return self.methods.get(name, []) + own
+
+
+class Trait(Item):
+    """A trait, with those of its functions that have a body."""
+
+    def __init__(self, name, module, line):
+        super().__init__(name, module, line)
+        self.methods = {}
+
+
+# A type with the types that its parameters stand for, each of which may be None, which is any.
+Made = collections.namedtuple("Made", "item args")
 
 
 class Variant:
@@ -116,11 +177,45 @@ class Constant(Item):
 
 
 class Function(Item):
-    def __init__(self, name, module, line, of, signature, body):
+    """A function: the type or trait that it is of, the type that the head of its `impl` names, and its parameters that are
+    types, of the `impl` and its own."""
+
+    def __init__(self, name, module, line, of, head, params, signature, body):
         super().__init__(name, module, line)
-        self.of, self.signature, self.body = of, signature, body
+        self.of, self.head, self.signature, self.body = of, head, signature, body
+        start = past_angle(signature, 0) if signature[0] == "<" else 0
+        self.own = names_in(signature[:start])
+        self.params = params + self.own
+        self.start = start
         if of:
             self.full = "%s::%s" % (of.full, name)
+
+    def takes(self):
+        """What the function takes, each as its tokens."""
+        return between(self.signature[self.start : past(self.signature, self.start)])
+
+    def takes_self(self):
+        """Whether it can be called as a method."""
+        return any("self" in part[:4] and ":" not in part[: part.index("self")] for part in self.takes()[:1])
+
+
+# ---- what the language itself has
+
+STD = Module(["std"], None, "std")
+STD.types["marker"] = Module(["std", "marker"], STD, "std")
+PRELUDE = {}
+
+
+def own(module, name, params, variants):
+    """A type of the language: it holds what its parameters stand for, and no more."""
+    parts = [(variant, tokens_of(held)) for variant, held in variants]
+    return Type(name, module, 0, params, [], parts)
+
+
+STD.types["marker"].types["PhantomData"] = own(STD, "PhantomData", ["T"], [])
+PRELUDE["Option"] = own(STD, "Option", ["T"], [("Some", "T"), ("None", "")])
+PRELUDE["Result"] = own(STD, "Result", ["T", "E"], [("Ok", "T"), ("Err", "E")])
+PRELUDE.update([(name, Variant(made, name)) for made in list(PRELUDE.values()) for name in made.variants])
 
 
 class Program:
@@ -140,11 +235,8 @@ class Program:
             if not root:
                 raise Unread("crate %s has no root" % name)
             self.roots[name] = self.module([name], None, "%s/src/%s" % (name, root))
-        for module, name, inside in self.impls:
-            of = self.found(module, [name])
-            if not isinstance(of, Type):
-                raise Unread("%s:%d: cannot find %s" % (module.file, name.line, name))
-            self.items(inside, module, of)
+        for module, head, inside in self.impls:
+            self.implemented(module, head, inside)
 
     def below(self, crate):
         """The crate with all crates of the repository that it rests on."""
@@ -162,15 +254,15 @@ class Program:
         module = Module(path, parent, file)
         try:
             with open(os.path.join(self.crates, *file.split("/")), encoding="utf-8") as source:
-                self.items(tokens_of(source.read()), module, None)
+                self.items(tokens_of(source.read()), module)
         except OSError as why:
             raise Unread("%s: %s" % (file, why.strerror)) from None
         except Unread as why:
             raise Unread(str(why) if ".rt:" in str(why) else "%s: %s" % (file, why)) from None
         return module
 
-    def items(self, tokens, module, of):
-        """The items of a module, or of an `impl` of a type. An `impl` is read when all types are known."""
+    def items(self, tokens, module, of=None, head=(), params=()):
+        """The items of a module, of a trait, or of an `impl` of a type. An `impl` is read when all types are known."""
         i = 0
         while i < len(tokens):
             t = tokens[i]
@@ -193,23 +285,58 @@ class Program:
                 i += 3
             elif t in ("struct", "enum"):
                 i = self.declared(tokens, i, module)
-            elif t == "type":
-                end = until(tokens, i, ";")
-                self.known(Type(tokens[i + 1], module, t.line, tokens[i + 3 : end]))
+            elif t == "type" and not of:
+                equals, end = until(tokens, i, "="), until(tokens, i, ";")
+                params = names_in(tokens[i + 2 : equals])
+                self.known(Type(tokens[i + 1], module, t.line, params, tokens[equals + 1 : end], alias=True))
                 i = end + 1
-            elif t == "const":
+            elif t == "trait" and not of:
+                start = until(tokens, i, "{")
+                end = past(tokens, start)
+                made = module.types[tokens[i + 1]] = Trait(tokens[i + 1], module, t.line)
+                given = names_in(tokens[i + 2 : past_angle(tokens, i + 2)]) if tokens[i + 2] == "<" else []
+                self.items(tokens[start + 1 : end - 1], module, made, params=given)
+                i = end
+            elif t == ";" and of:
+                i += 1
+            elif t == "const" and not isinstance(of, Trait):
                 name, equals, end = tokens[i + 1], until(tokens, i, "="), until(tokens, i, ";")
                 made = Constant(name, module, t.line, of, tokens[i + 3 : equals], tokens[equals + 1 : end])
                 (of.constants if of else module.values)[name] = made
                 i = end + 1
             elif t == "fn":
-                i = self.function(tokens, i, module, of)
-            elif t == "impl" and tokens[i + 2] == "{":
-                end = past(tokens, i + 2)
-                self.impls.append((module, tokens[i + 1], tokens[i + 3 : end - 1]))
+                i = self.function(tokens, i, module, of, head, params)
+            elif t == "impl" and not of:
+                start = until(tokens, i, "{")
+                end = past(tokens, start)
+                self.impls.append((module, tokens[i:start], tokens[start + 1 : end - 1]))
                 i = end
             else:
                 raise Unread("%s:%d: no item begins with %s" % (module.file, t.line, t))
+
+    def implemented(self, module, head, inside):
+        """The items of an `impl`. That of a trait which none of the crates has cannot be read: the language itself may call
+        its functions, with no name."""
+        params, at = [], 1
+        if head[at] == "<":
+            at = past_angle(head, at)
+            params = names_in(head[1:at])
+        of_trait = until(head, at, ["for"])
+        named = head[of_trait + 1 :] if of_trait < len(head) else head[at:]
+        of = self.found(module, path_at(named, 0))
+        if not isinstance(of, Type) or of.alias or not self.is_whole(named):
+            raise Unread("%s:%d: cannot find %s" % (module.file, head[0].line, " ".join(named)))
+        if of_trait < len(head):
+            trait = self.found(module, path_at(head, at))
+            if not isinstance(trait, Trait) or not self.is_whole(head[at:of_trait]):
+                raise Unread("%s:%d: cannot tell what calls %s" % (module.file, head[0].line, " ".join(head[at:of_trait])))
+            of.traits.append((trait, [inside[i + 1] for i, t in enumerate(inside) if t == "fn"]))
+        self.items(inside, module, of, named, params)
+
+    def is_whole(self, tokens):
+        """Whether the tokens are a path, and after it no more than what its parameters stand for."""
+        end = 2 * len(path_at(tokens, 0)) - 1
+        return end == len(tokens) or tokens[end] == "<" and past_angle(tokens, end) == len(tokens)
 
     def known(self, item):
         item.module.types[item.name] = item
@@ -218,7 +345,8 @@ class Program:
     def declared(self, tokens, i, module):
         """A struct or an enum, whose variants are names, each with what it holds."""
         kind, name = tokens[i], tokens[i + 1]
-        start = until(tokens, i, "{(;")
+        start = past_angle(tokens, i + 2) if tokens[i + 2] == "<" else i + 2
+        params, start = names_in(tokens[i + 2 : start]), until(tokens, start, "{(;")
         end = past(tokens, start) if tokens[start] != ";" else start + 1
         variants, at = [], start + 1
         while kind == "enum" and at < end - 1:
@@ -226,17 +354,23 @@ class Program:
             variants.append((tokens[at], tokens[at + 2 : comma - 1]))
             at = comma + 1
         inside = [t for _, parts in variants for t in parts] if kind == "enum" else tokens[start:end]
-        self.known(Type(name, module, name.line, inside, variants))
+        self.known(Type(name, module, name.line, params, inside, variants))
         return end + 1 if end < len(tokens) and tokens[end] == ";" else end
 
-    def function(self, tokens, i, module, of):
+    def function(self, tokens, i, module, of, head, params):
+        """A function. In a trait it may have no body."""
         name = tokens[i + 1]
-        start = until(tokens, i, "{")
+        start = until(tokens, i, "{;" if isinstance(of, Trait) else "{")
         if start == len(tokens):
             raise Unread("%s:%d: %s has no body" % (module.file, name.line, name))
+        if tokens[start] == ";":
+            return start + 1
         end = past(tokens, start)
-        made = Function(name, module, name.line, of, tokens[i + 2 : start], tokens[start:end])
-        (of.methods if of else module.values)[name] = made
+        made = Function(name, module, name.line, of, head, list(params), tokens[i + 2 : start], tokens[start:end])
+        if isinstance(of, Type):
+            of.methods.setdefault(name, []).append(made)
+        else:
+            (of.methods if of else module.values)[name] = made
         return end
 
     def used(self, tokens, path, module):
@@ -263,7 +397,8 @@ class Program:
     # finding
 
     def found(self, module, path, of=None):
-        """What a path means in a module, or None: a function, constant, type, variant or module."""
+        """What a path means in a module, or None: a function, constant, type, trait, variant or module, or a list of functions
+        where several `impl`s of a type have one of that name."""
         first = path[0]
         if first == "crate":
             at = self.roots[module.path[0]]
@@ -273,10 +408,13 @@ class Program:
             at = module.parent
         elif first == "Self":
             at = of
+        elif first == "std":
+            at = STD
         else:
             at = self.member(module, first, last=len(path) == 1)
             if at is None and first in self.sees.get(module.path[0], []):
                 at = self.roots.get(first)
+            at = at or PRELUDE.get(first)
         for k, name in enumerate(path[1:]):
             at = self.member(at, name, last=k == len(path) - 2)
         return at
@@ -286,7 +424,8 @@ class Program:
         if isinstance(at, Type):
             if name in at.variants:
                 return Variant(at, name)
-            return at.methods.get(name) or at.constants.get(name)
+            functions = at.functions(name)
+            return functions[0] if len(functions) == 1 else functions or at.constants.get(name)
         if not isinstance(at, Module):
             return None
         if last and name in at.values:
@@ -301,7 +440,9 @@ class Program:
         return self.found(at, path)
 
     def methods(self, crate, name, of=None):
-        """The methods of that name of the type, or where it is not known of all types that a crate sees."""
+        """The methods of that name of the type, or where it is not known of all types that a crate sees, each with its type."""
         seen = self.below(crate)
         types = [of] if of else [t for t in self.types if t.module.path[0] in seen]
-        return [t.methods[name] for t in types if name in t.methods]
+        if not of:
+            types += [t for t in PRELUDE.values() if isinstance(t, Type)]
+        return [(f, t) for t in types for f in t.functions(name) if f.takes_self()]

@@ -18,8 +18,19 @@ def blank(text):
 # What is no code, and what may hold text that looks like it.
 APART = re.compile(r"//[^\n]*|/\*|b?\"(?:\\.|[^\"\\])*\"|b?'(?:\\.|[^'\\])'", re.S)
 
-# What only the prover reads: imports, and clauses of a function, whose braces may be nested.
-GHOST = re.compile(r"\bghost\s+use\b[^;]*;|\b(?:requires|ensures|ghost)\b[^{;=]*\{")
+# What only the prover reads: imports, clauses of a function, and ghost members of a struct, a trait or an `impl`. Their braces
+# may be nested. Each begins its line, and a name may stand before the brace, but nothing else: so a local by the name of ghost
+# is not taken for one.
+GHOST = re.compile(
+    r"""^[ ]*(?:pub(?:\(\w+\))?[ ])?(?:
+    ghost\s+use\b[^;]*;
+    |(?:requires|ensures|ghost)\b(?:\s+\w+)?\s*:?\s*\{
+    |ghost\s+\w+\s*=\s*\{)""",
+    re.X | re.M,
+)
+
+# A ghost field may have a proof after its fact.
+PROOF = re.compile(r"\s*\bby\s*\{")
 
 
 def clause_ends(text, start):
@@ -43,6 +54,8 @@ def code(text, strings=False):
     at = 0
     while found := GHOST.search(text, at):
         at = clause_ends(text, found.end()) if found.group().endswith("{") else found.end()
+        if "ghost" in found.group() and (proof := PROOF.match(text, at)):
+            at = clause_ends(text, proof.end())
         kept = [k for k in kept if not found.start() <= k.start() < at]
         text = text[: found.start()] + blank(text[found.start() : at]) + text[at:]
     for string in kept:
