@@ -22,8 +22,12 @@ LEFT_OUT = ["draws", "trials", "list_trials"]
 
 # Lines of code elsewhere that are no conversion between the two units, each with its reason: (file, line, reason).
 EXCEPTIONS = [
-    ("tail/src/lib.rt", "& ((y << 3) ^ k.b2)", "the window moved up for the third of four bits of the pattern, by 1 to 4 bits in turn"),
-    ("tail/src/lib.rt", "& ((z << 3) ^ k.b6)", "the same for the other four bits"),
+    (
+        "tail/src/lib.rt",
+        "((y << 1) ^ self.b0) & ((y << 2) ^ self.b1) & ((y << 3) ^ self.b2) & ((y << 4) ^ self.b3)",
+        "the window moved up for each of four bits of the pattern, by 1 to 4 bits in turn",
+    ),
+    ("matcher/src/query.rt", "let here = ByteNo(8 * load);", "the first byte of a load of eight bytes, by the number of the load"),
 ]
 
 
@@ -91,6 +95,9 @@ BAD = [
     "    ensures { λ r. ⌜ r ≡ x ⌝ } { x / 8 }",
     "let s = b\"//\"; let b = p / 8;",
     "let p = 8\n    * b;",
+    "    ghost low = { x };\n    fn f(x: u32) -> u32 { x / 8 }",
+    "    ghost low: { x } by { y },\n    p: u32 = x / 8,",
+    "let ghost = { x / 8 };",
 ]
 GOOD = [
     "let b = p.byte();",
@@ -108,6 +115,10 @@ GOOD = [
     "if a && 7 < b && 8 <= c {",
     "let f = flags & 70 & x8 * y;",
     "let c = b\"/ 8\";",
+    "struct S {\n    p: u32,\n    pub ghost small: { p / 8 < n },\n}",
+    "struct S {\n    p: u32,\n    ghost small: { P (p % 8) } by { small (8 * p) },\n}",
+    "impl Low for Place {\n    ghost low = { λ x. x.0 / 8 };\n}",
+    "trait Low {\n    ghost low: { (x : Self) → x ≡ x * 8 };\n    fn f(x: Self) -> u32\n        ensures { result ≡ x / 8 };\n}",
 ]
 
 
