@@ -115,7 +115,8 @@ pub fn head_inside(bytes: &[u8], p: Place) -> u64
     eight_bytes(bytes, p.byte()) << p.offset()
 }
 
-// The 64 bits from byte b on: one machine load, and near the end a call.
+// The 64 bits from byte b on: one machine load, and near the end a call. Small enough to stand in every hot loop.
+#[inline(always)]
 pub fn word_at_byte(bytes: &[u8], b: ByteNo) -> u64
     requires { b.0 < 2 ^ 29 }
     ensures { result ≡ bits_at bytes.now (b.0 * 8) 64 }

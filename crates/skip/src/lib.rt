@@ -144,12 +144,7 @@ impl Steps for Chains {
 // The flags of a block after those of another, lowest first, from this one on. The place of a block's flag e is 8 b + 8 + 57 times
 // the block's number + e, less m. Most bytes have no flag, so it is cold as well.
 #[cold]
-fn sweep(
-    by: &SearchBy<Words>,
-    b: ByteNo,
-    first: Block,
-    list: &mut [u32],
-) -> Result<Reached, Full>
+fn sweep(by: &SearchBy<Words>, b: ByteNo, first: Block, list: &mut [u32]) -> Result<Reached, Full>
     requires m_bound { (chained by.now.search.now.query.pattern.m ≤ 8 * b.0) × (8 * b.0 < places (text_in by.now.search.now.query) (pattern_in by.now.search.now.query)) }
     requires flagging { Flagging (pattern_in by.now.search.now.query) (get_or by.now.search.now.query.text.now b.0 0) (chained by.now.search.now.query.pattern.m) first.number first.left }
     ensures { StepGives Method.Skip (text_in by.now.search.now.query) (pattern_in by.now.search.now.query) (8 * b.0 + 1 - chained by.now.search.now.query.pattern.m) list.old result list.new }

@@ -222,7 +222,9 @@ impl Masks {
         self.first.left(x) & self.second.left(x) & (self.past | (end ^ (end - 1))) & self.below
     }
 
-    // The greatest length below m such that the pattern's first bits are the last ones of the window x.
+    // The greatest length below m such that the pattern's first bits are the last ones of the window x. It is a call, so that the
+    // loop over the steps keeps its variables in registers: on a regular text it runs without this.
+    #[inline(never)]
     fn longest(&self, x: u64) -> u32
         requires { (0 < self.now.m) × (self.now.m ≤ 64) × Made self.now }
         ensures { Longest self.now.m self.now.zeros self.now.ones x result }

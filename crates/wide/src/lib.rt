@@ -13,7 +13,7 @@ ghost use Rattle.wide.specs.Flags.{StartsByte, Enters, Entered, Moves, within, s
 ghost use Rattle.matcher.specs.Asked.{lent, text_in, pattern_in};
 ghost use Rattle.matcher.specs.Gives.{StepGives};
 
-use bits::{Place, bit, load};
+use bits::{ByteNo, Place, bit, load};
 use matcher::query::Pattern;
 use matcher::search::{Rule, Search};
 use matcher::steps::{Full, Matcher, Reached};
@@ -242,8 +242,9 @@ impl Matcher for Wide {
             zero: ALL,
             one: ALL,
         };
-        for byte in 0..count / 8 {
-            let q = 8 * byte;
+        let whole = Place(count).byte();
+        for byte in 0..whole.0 {
+            let q = ByteNo(byte).place().0;
             let new = entering(pattern, q);
             enter(q, 8, flags, new, cells);
             flags = ByBit {
@@ -255,7 +256,8 @@ impl Matcher for Wide {
             zero: 255,
             one: 255,
         };
-        enter(count / 8 * 8, (count % 8) as usize, flags, after, cells);
+        let rest = Place(count).offset() as usize;
+        enter(whole.place().0, rest, flags, after, cells);
     }
 
     // The flags of the step's 64 places, and those that stand settled by comparison.

@@ -18,13 +18,16 @@ loop-byte-preserved c =
     let i = l.invariant in
     let new = c.entering-new in
     let q = 8 * l.byte in
+    let there : c.place-q.result.0 ≡ 8 * l.byte = omega (arith, c.place-q.ensures) in
+    let zero = rw there at new.ensures.0 in
+    let one = rw there at new.ensures.1 in
     let next : 8 * l.byte + 8 ≡ 8 * (l.byte + 1) = omega arith in
     record {
       made = rw next at
-          (filled_more w c.args.cells.now l.cells c.enter.new.cells q 8 l.flags.zero l.flags.one new.result.zero new.result.one i.made c.enter.ensures
-          (omega arith) (omega arith) i.zero i.one new.ensures.0 new.ensures.1);
-      zero = rw next at (before_moved w 0 q l.flags.zero new.result.zero i.zero new.ensures.0);
-      one = rw next at (before_moved w 1 q l.flags.one new.result.one i.one new.ensures.1);
+          (filled_more w c.args.cells.now l.cells c.enter.new.cells q 8 l.flags.zero l.flags.one new.result.zero new.result.one i.made (rw there at c.enter.ensures)
+          (omega arith) (omega arith) i.zero i.one zero one);
+      zero = rw next at (before_moved w 0 q l.flags.zero new.result.zero i.zero zero);
+      one = rw next at (before_moved w 1 q l.flags.one new.result.one i.one one);
     }
 
 pub returns : goal.returns
@@ -33,9 +36,10 @@ returns c =
     let l = c.loop-byte in
     let i = l.invariant in
     let q = (w.count + 63) / 8 * 8 in
-    let here : 8 * l.byte ≡ (w.count + 63) / 8 * 8 = omega arith in
+    let here : 8 * l.byte ≡ (w.count + 63) / 8 * 8 = omega (arith, c.byte-whole.ensures) in
+    let start : c.place.result.0 ≡ q = omega (arith, c.place.ensures, c.byte-whole.ensures) in
     let f
-    = filled_more w c.args.cells.now l.cells c.enter-2.new.cells q ((w.count + 63) % 8) l.flags.zero l.flags.one 255 255 (rw here at i.made) c.enter-2.ensures
+    = filled_more w c.args.cells.now l.cells c.enter-2.new.cells q ((w.count + 63) % 8) l.flags.zero l.flags.one 255 255 (rw here at i.made) (rw (start, c.offset-rest.ensures) at c.enter-2.ensures)
     (omega arith) (omega arith) (rw here at i.zero) (rw here at i.one) (enters_past w 0 q (omega arith)) (enters_past w 1 q (omega arith)) in
     record {
       tables = record { flags_are = λ q b i u v h. f.flags q b i (omega arith) v h };
