@@ -1,4 +1,5 @@
 -- The laws of the definitions and the theorems about them.
+pub mod Lowest
 pub mod Rows
 pub mod Answers
 pub mod Calls

@@ -1,125 +1,27 @@
--- Laws of the flags of a place taken all at once: they are listed lowest first, and where each flagged pattern fits and has no
--- more than 32 bits, those listed stand; and of the lengths of the patterns, which tell that.
+-- Laws of the flags of a place: where each flagged pattern fits and has no more than 32 bits, it stands; and of the lengths of the
+-- patterns, which tell that.
 -- Assumes nothing.
 use Prim.Native.Nat.{ℕ, ◌+◌, ◌-◌, ◌^◌, ◌≤◌, ◌<◌, max}
-use mathlib.Core.Path.{◌≡◌, refl, sym, ap, ap₂, ◌∙◌}
+use mathlib.Core.Path.{◌≡◌, refl, sym, ap, ◌∙◌}
 use mathlib.Core.Logic.{◌⊎◌, inl, inr, ⊎_elim}
-use mathlib.Core.Bool.{Bool, true, false, ◌&&◌, cond}
-use mathlib.Core.List.{List, [], ◌∷◌, ◌++◌, append-nil}
-use native.Mathlib.Nat.{zero-add}
-use native.Mathlib.Decide.{dec_lt}
+use mathlib.Core.Bool.{Bool, true, false, cond}
+use mathlib.Core.List.{List}
 use native.Mathlib.Omega.{arith}
-use lib.Bits.{bit_and, bit_or, and_le_r}
-use lib.Count.{count_trailing_zeros}
-use lib.Dec.{ltb, eqb}
-use lib.ListN.{length, get_or, set}
-use borrow.Author.Tests.{ltb-false, le-ltb, eq-eqb}
+use lib.Bits.{bit_and, bit_or}
+use lib.Dec.{ltb}
+use lib.ListN.{length, get_or}
+use borrow.Author.Tests.{ltb-false, eq-eqb}
 use Rattle.bits.specs.Packed.{Packed, weight, bits_at}
 use Rattle.bits.proofs.Weight.{weight_lt, bit_or_bit, weight_zero, weight_and, weight_or}
-use Rattle.rules.specs.Ranges.{keep, among}
 use Rattle.rules.specs.Occurrence.{occurs}
-use Rattle.rules.proofs.Ranges.{split, eq_or_below, among_append, among_same, among_none, among_length}
-use Rattle.matcher.specs.Progress.{Writing}
-use Rattle.matcher.proofs.SingleBits.{trailing_below, trailing_at, trailing_lt, lowest_gone, others_stay, weight_power}
-use Rattle.matcher.proofs.Writing.{writing_none, writing_more}
+use Rattle.rules.proofs.Ranges.{split, eq_or_below}
+use Rattle.matcher.proofs.SingleBits.{weight_power}
 use Rattle.set_rules.specs.PatternSet.{PatternSet, pattern_at}
-use Rattle.set_rules.specs.Hits.{standing}
 use Rattle.set_tables.specs.Fronts.{begins, Flags}
 use Rattle.set.specs.Lengths.{Lengths}
-use Rattle.set.specs.Parts.{Listed}
+use Rattle.set.specs.Ones.{flagged}
+use Rattle.set.proofs.Lowest.{not_flagged}
 use Rattle.set.proofs.Standing.{stands_short, unset, set_begins}
-
--- Flags listed lowest first
-
--- whether flag i is set
-abbrev pub flagged : ℕ → ℕ → Bool
-flagged flags i = eqb (weight flags i) 1
-
-not_flagged : (flags i : ℕ) → weight flags i ≡ 0 → flagged flags i ≡ false
-not_flagged flags i e = rw e
-
--- the flags before number `at` are listed, and f has those from there on
-pub record Taken (flags : ℕ) (before numbers : List ℕ) (f count : ℕ) : Type 0 where
-  pub at : ℕ
-  pub upto : at ≤ 64
-  pub small : f < 2 ^ 64
-  pub gone : (i : ℕ) → i < at → weight f i ≡ 0
-  pub rest : (i : ℕ) → at ≤ i → weight f i ≡ weight flags i
-  pub writing : Writing before 0 (among (flagged flags) 0 at) numbers count
-
-module _ (flags : ℕ) (before : List ℕ) where
-  pub taken_none : flags < 2 ^ 64 → Taken flags before before flags 0
-  unfolding among
-  taken_none l =
-      record {
-        at = 0;
-        upto = omega arith;
-        small = l;
-        gone = λ i u. absurd (omega arith);
-        rest = λ i u. refl;
-        writing = writing_none before 0 (omega arith);
-      }
-
-  module _ (numbers : List ℕ) (f count : ℕ) (g : Taken flags before numbers f count) where
-    -- none of those from a on to b is set
-    none_between : (a b : ℕ) → g.at ≤ a → a ≤ b → ((i : ℕ) → a ≤ i → i < b → weight f i ≡ 0)
-        → among (flagged flags) 0 b ≡ among (flagged flags) 0 a
-    none_between a b l u h =
-        let whole : b ≡ a + (b - a) = omega arith in
-        ap (among (flagged flags) 0) whole
-        ∙ among_append (flagged flags) 0 a (b - a)
-        ∙ ap (λ (l : List ℕ). among (flagged flags) 0 a ++ l)
-        (ap (λ (n : ℕ). among (flagged flags) n (b - a)) (zero-add a)
-        ∙ among_none (flagged flags) a (b - a) (λ i v z. not_flagged flags i (sym (g.rest i (omega arith)) ∙ h i v (omega arith))))
-        ∙ append-nil _
-
-    -- no flag is left
-    pub all_taken : f ≡ 0 → Listed flags before numbers count
-    all_taken e = rw (none_between g.at 64 (omega arith) g.upto (λ i l u. ap (λ (x : ℕ). weight x i) e ∙ weight_zero i)) g.writing
-
-    module _ (some : f ≡ 0 → ⊥) where
-      lowest_small : count_trailing_zeros 64 f < 64
-      lowest_small = trailing_lt 64 64 f g.small some
-
-      lowest_late : g.at ≤ count_trailing_zeros 64 f
-      lowest_late = go (dec_lt (count_trailing_zeros 64 f) g.at)
-        where
-          go : Dec (count_trailing_zeros 64 f < g.at) → g.at ≤ count_trailing_zeros 64 f
-          go (yes l) = absurd (omega (arith, g.gone (count_trailing_zeros 64 f) l, trailing_at 64 f lowest_small))
-          go (no l) = omega arith
-
-      -- as many numbers are written as flags passed, at most
-      pub few_taken : count < 64
-      few_taken = omega (arith, g.writing.count, among_length (flagged flags) 0 g.at, lowest_small, lowest_late)
-
-      lowest_next : among (flagged flags) 0 (count_trailing_zeros 64 f + 1) ≡ among (flagged flags) 0 g.at ++ count_trailing_zeros 64 f ∷ []
-      unfolding among
-      lowest_next =
-          let y : ℕ = count_trailing_zeros 64 f in
-          let on : flagged flags y ≡ true = eq-eqb _ 1 (sym (g.rest y lowest_late) ∙ trailing_at 64 f lowest_small) in
-          among_append (flagged flags) 0 y 1
-          ∙ ap₂ ◌++◌ (none_between g.at y (omega arith) lowest_late (λ i l u. trailing_below 64 f i u))
-          (ap (λ (a : ℕ). among (flagged flags) a 1) (zero-add y) ∙ ap (λ (b : Bool). keep b y []) on)
-
-      pub less_left : bit_and f (f - 1) < f
-      less_left = omega (arith, and_le_r f (f - 1))
-
-      -- the lowest flag listed
-      pub taken_more : 64 ≤ length before → Taken flags before (set numbers count (count_trailing_zeros 64 f)) (bit_and f (f - 1)) (count + 1)
-      taken_more room =
-          record {
-            at = count_trailing_zeros 64 f + 1;
-            upto = omega (arith, lowest_small);
-            small = omega (arith, less_left, g.small);
-            gone = λ i l.
-                ⊎_elim
-                (λ (e : i ≡ count_trailing_zeros 64 f). ap (weight (bit_and f (f - 1))) e ∙ lowest_gone 64 f g.small some)
-                (λ (u : i < count_trailing_zeros 64 f). others_stay 64 f g.small some i (λ e. omega arith) ∙ trailing_below 64 f i u)
-                (eq_or_below (omega arith));
-            rest = λ i l. others_stay 64 f g.small some i (λ e. omega arith) ∙ g.rest i (omega (arith, lowest_late));
-            writing = rw lowest_next
-                (writing_more before 0 (among (flagged flags) 0 g.at) numbers count (count_trailing_zeros 64 f) g.writing (omega (arith, few_taken)));
-          }
 
 -- Where every flagged pattern fits and is short, all of them stand
 
@@ -129,7 +31,7 @@ module _ (t : Packed) (ws : PatternSet) (p flags until long : ℕ) (few : length
   is_short : (i : ℕ) → weight flags i ≡ 1 → weight long i ≡ 0
   is_short i e = omega (arith, weight_and flags long i, ap (λ (x : ℕ). weight x i) none ∙ weight_zero i, weight_lt long i)
 
-  stands_flagged : (i : ℕ) → i < length ws.counts → flagged flags i ≡ occurs t (pattern_at ws i) p
+  pub stands_flagged : (i : ℕ) → i < length ws.counts → flagged flags i ≡ occurs t (pattern_at ws i) p
   stands_flagged i l = go (bit_or_bit (weight flags i) (weight_lt flags i))
     where
       go : (weight flags i ≡ 0) ⊎ (weight flags i ≡ 1) → flagged flags i ≡ occurs t (pattern_at ws i) p
@@ -137,21 +39,6 @@ module _ (t : Packed) (ws : PatternSet) (p flags until long : ℕ) (few : length
       go (inr e) =
           eq-eqb (weight flags i) 1 e
           ∙ stands_short t (pattern_at ws i) p (lengths.fits p i early l) (lengths.short i l (is_short i e)) (set_begins t ws p flags marked i e)
-
-  all_stand : among (flagged flags) 0 64 ≡ standing t ws p
-  unfolding standing
-  all_stand =
-      let n : ℕ = length ws.counts in
-      let whole : 64 ≡ n + (64 - n) = omega arith in
-      ap (among (flagged flags) 0) whole
-      ∙ among_append (flagged flags) 0 n (64 - n)
-      ∙ ap₂ ◌++◌ (among_same _ _ 0 n (λ i l u. stands_flagged i (omega arith)))
-      (among_none (flagged flags) (0 + n) (64 - n) (λ i l u.
-      not_flagged flags i (marked i ∙ ap (λ (b : Bool). cond (b && begins (pattern_at ws i) 0 32 (bits_at t.bytes p 32)) 1 0) (le-ltb i n (omega arith)))))
-      ∙ append-nil _
-
-  pub listed_stand : (before numbers : List ℕ) (count : ℕ) → Listed flags before numbers count → Writing before 0 (standing t ws p) numbers count
-  listed_stand before numbers count h = rw all_stand at h
 
 -- The lengths of the patterns
 

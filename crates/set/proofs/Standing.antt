@@ -1,37 +1,35 @@
 -- Laws of what stands at a place: a pattern that occurs begins there, and so has its flag; flags taken lowest first give the
 -- patterns that stand; and their pairs are written one after the other.
 -- Assumes nothing.
-use Prim.Native.Nat.{ℕ, suc, ◌+◌, ◌-◌, ◌*◌, ◌/◌, ◌^◌, ◌≤◌, ◌<◌, min}
+use Prim.Native.Nat.{ℕ, suc, ◌+◌, ◌-◌, ◌*◌, ◌/◌, ◌^◌, ◌≤◌, ◌<◌}
 use mathlib.Core.Path.{◌≡◌, refl, sym, ap, ap₂, ◌∙◌}
 use mathlib.Core.Bool.{Bool, true, false, ◌&&◌, cond}
 use mathlib.Core.List.{List, [], ◌∷◌, ◌++◌, map, map-append, append-nil}
-use native.Mathlib.Nat.{zero-add, div-one, div-le_self, lt_of_le_of_lt}
+use native.Mathlib.Nat.{zero-add}
 use native.Mathlib.Numerals.{add-one}
 use native.Mathlib.Omega.{arith}
-use lib.Count.{count_trailing_zeros}
 use lib.Dec.{ltb}
-use lib.ListN.{length, get_or, take, drop, set, length-take, length-drop, length-map}
-use lib.Pow.{shr-shr}
+use lib.ListN.{length, get_or, take, drop, set, length-take, length-map}
 use lib.Seq.{sets, take-suc}
 use borrow.Author.Rules.{part_to_end}
-use borrow.Author.Tests.{ltb-true, lt-ltb}
-use Rattle.bits.specs.Packed.{Packed, weight, bit_of, bit_at, bits_at}
-use Rattle.bits.proofs.Weight.{weight_shr, weight_zero}
+use borrow.Author.Tests.{ltb-true, lt-ltb, eqb-true, eqb-false}
+use Rattle.bits.specs.Packed.{Packed, weight, bit_at, bits_at}
+use Rattle.bits.proofs.Weight.{weight_shr, weight_zero, weight_lt}
 use Rattle.bits.proofs.Run.{bit_of_bits}
-use Rattle.rules.specs.declared.Method.TheVariants.{Plain}
-use Rattle.rules.specs.Ranges.{every, keep, among}
+use Rattle.rules.specs.Ranges.{keep, among}
 use Rattle.rules.specs.Pattern.{Pattern, agrees}
 use Rattle.rules.specs.Occurrence.{matches, occurs}
 use Rattle.rules.proofs.Ranges.{and_left, and_right, and_both, implies_to, to_implies, not_true_false, every_at, to_every, among_append, among_none, among_length}
 use Rattle.rules.proofs.Occurrence.{to_matches, occurs_iff, occurs_inside, none_from_places}
 use Rattle.matcher.specs.Progress.{Writing}
-use Rattle.matcher.specs.Ready.{text_of, pattern_of, HeadOf, GoodPattern}
-use Rattle.matcher.proofs.SingleBits.{trailing_below, trailing_at, trailing_lt}
+use Rattle.matcher.specs.Ready.{text_of, pattern_of}
 use Rattle.matcher.proofs.Writing.{writing_none, writing_more, sets_append}
 use Rattle.set_rules.specs.PatternSet.{PatternSet, start_of, pattern_at}
 use Rattle.set_rules.specs.Hits.{Hit, hit_at, standing, cells_of}
 use Rattle.set_tables.specs.Fronts.{begins, Flags}
+use Rattle.set.specs.Ones.{flagged, ones}
 use Rattle.set.specs.Parts.{PairsWritten}
+use Rattle.set.proofs.Lowest.{Head, among_head, among_nil}
 
 -- The first 32 bits of a pattern, compared with those of the text at p
 
@@ -70,14 +68,6 @@ module _ (t : Packed) (w : Pattern) (p : ℕ) where
   pub occurs_begins : occurs t w p ≡ true → begins w 0 32 (bits_at t.bytes p 32) ≡ true
   occurs_begins e = to_begins w t.bytes p ((occurs_iff t w p).0 e).same
 
--- a pattern begins inside both runs
-pub start_inside : (ws : PatternSet) (i : ℕ) → GoodPattern Plain (pattern_at ws i)
-    → (start_of ws.counts i ≤ length ws.bytes) × (start_of ws.counts i ≤ length ws.fixed)
-start_inside ws i good =
-    let in_bytes = length-drop (start_of ws.counts i) ws.bytes in
-    let in_fixed = length-drop (start_of ws.counts i) ws.fixed in
-    (omega (arith, good.some_bits, good.bytes_there), omega (arith, good.some_bits, good.fixed_there))
-
 -- The two runs from its first byte on are the pattern's
 
 module _ (ws : PatternSet) (i start : ℕ) (e : start ≡ start_of ws.counts i) where
@@ -87,13 +77,6 @@ module _ (ws : PatternSet) (i start : ℕ) (e : start ≡ start_of ws.counts i) 
       ap₂ (λ (a b : List ℕ). pattern_of a b (get_or ws.counts i 0))
       (part_to_end ws.bytes start ∙ ap (λ (a : ℕ). drop a ws.bytes) e)
       (part_to_end ws.fixed start ∙ ap (λ (a : ℕ). drop a ws.fixed) e)
-
-  -- so is their head
-  pub head_from : (head mask : ℕ) → HeadOf (pattern_at ws i) head mask
-      → HeadOf
-      (pattern_of (take (length ws.bytes - start) (drop start ws.bytes)) (take (length ws.fixed - start) (drop start ws.fixed)) (get_or ws.counts i 0))
-      head mask
-  head_from head mask h x = h x ∙ ap (λ (w : Pattern). every (min w.count 57) (λ j. agrees w j (bit_of 64 x j))) (sym from_start)
 
   -- and it stands where they do
   pub stands_from : (t : Packed) (p : ℕ) (r : Bool) → p + get_or ws.counts i 0 ≤ t.count
@@ -140,99 +123,97 @@ module _ (t : Packed) (ws : PatternSet) (p flags : ℕ)
 -- Flags taken lowest first
 
 -- the patterns before number `from` are settled, and f has the flags of those from there on
-pub record Finding (t : Packed) (ws : PatternSet) (p flags : ℕ) (before numbers : List ℕ) (f from count : ℕ) : Type 0 where
+pub record Finding (t : Packed) (ws : PatternSet) (p flags : ℕ) (before numbers : List ℕ) (f count : ℕ) : Type 0 where
+  pub from : ℕ
   pub upto : from ≤ length ws.counts
-  pub rest : f ≡ flags / 2 ^ from
+  pub rest : ones f ≡ among (flagged flags) from (64 - from)
   pub writing : Writing before 0 (among (λ i. occurs t (pattern_at ws i) p) 0 from) numbers count
 
-module _ (t : Packed) (ws : PatternSet) (p flags : ℕ) (small : flags < 2 ^ 64)
+module _ (t : Packed) (ws : PatternSet) (p flags : ℕ) (few : length ws.counts ≤ 64)
     (marked : Flags ws (length ws.counts) (λ w. begins w 0 32 (bits_at t.bytes p 32)) flags) (before : List ℕ) where
-  pub finding_none : Finding t ws p flags before before flags 0 0
-  unfolding among
-  finding_none = record { upto = omega arith; rest = sym (div-one flags); writing = writing_none before 0 (omega arith) }
+  abbrev stands_there : ℕ → Bool
+  stands_there i = occurs t (pattern_at ws i) p
 
-  module _ (numbers : List ℕ) (f from count : ℕ) (g : Finding t ws p flags before numbers f from count) where
+  -- a pattern without a flag does not stand there
+  clear : (i : ℕ) → i < length ws.counts → flagged flags i ≡ false → stands_there i ≡ false
+  clear i l e = unset t ws p flags marked i l (omega (arith, eqb-false (weight flags i) 1 e, weight_lt flags i))
+
+  pub finding_none : Finding t ws p flags before before flags 0
+  unfolding among
+  finding_none = record { from = 0; upto = omega arith; rest = refl; writing = writing_none before 0 (omega arith) }
+
+  module _ (numbers : List ℕ) (f count : ℕ) (g : Finding t ws p flags before numbers f count) where
     -- no flag is left
-    pub found : f ≡ 0 → Writing before 0 (standing t ws p) numbers count
+    pub found : ones f ≡ [] → Writing before 0 (standing t ws p) numbers count
     unfolding standing
     found e =
-        let whole : length ws.counts ≡ from + (length ws.counts - from) = omega (arith, g.upto) in
-        let all : among (λ i. occurs t (pattern_at ws i) p) 0 (length ws.counts) ≡ among (λ i. occurs t (pattern_at ws i) p) 0 from
-        = ap (among (λ i. occurs t (pattern_at ws i) p) 0) whole
-        ∙ among_append _ 0 from (length ws.counts - from)
-        ∙ ap (λ (l : List ℕ). among (λ i. occurs t (pattern_at ws i) p) 0 from ++ l)
-        (ap (λ (a : ℕ). among (λ i. occurs t (pattern_at ws i) p) a (length ws.counts - from)) (zero-add from) ∙ none_left t ws p flags marked from (sym g.rest ∙ e))
+        let whole : length ws.counts ≡ g.from + (length ws.counts - g.from) = omega (arith, g.upto) in
+        let none : among stands_there g.from (length ws.counts - g.from) ≡ []
+        = among_none stands_there g.from (length ws.counts - g.from) (λ i l u.
+        clear i (omega (arith, g.upto)) (among_nil (flagged flags) g.from (64 - g.from) (sym g.rest ∙ e) i l (omega (arith, g.upto)))) in
+        let all : among stands_there 0 (length ws.counts) ≡ among stands_there 0 g.from
+        = ap (among stands_there 0) whole
+        ∙ among_append stands_there 0 g.from (length ws.counts - g.from)
+        ∙ ap (λ (l : List ℕ). among stands_there 0 g.from ++ l)
+        (ap (λ (a : ℕ). among stands_there a (length ws.counts - g.from)) (zero-add g.from) ∙ none)
         ∙ append-nil _ in
         rw all g.writing
 
-    -- as many numbers are written as patterns passed, at most
-    pub few_found : count ≤ from
-    few_found = omega (arith, g.writing.count, among_length (λ i. occurs t (pattern_at ws i) p) 0 from)
+    -- the lowest flag that is left, and the others
+    module _ (e f' : ℕ) (taken : ones f ≡ e ∷ ones f') where
+      head : Head (flagged flags) g.from (64 - g.from) e (ones f')
+      head = among_head (flagged flags) g.from (64 - g.from) e (ones f') (sym g.rest ∙ taken)
 
-    module _ (some : f ≡ 0 → ⊥) where
-      at : (i : ℕ) → weight flags (from + i) ≡ weight f i
-      at i = sym (weight_shr flags from i) ∙ ap (λ (x : ℕ). weight x i) (sym g.rest)
+      on : weight flags e ≡ 1
+      on = eqb-true (weight flags e) 1 head.passes
 
-      pub lowest_small : count_trailing_zeros 64 f < 64
-      lowest_small = trailing_lt 64 64 f (rw g.rest (lt_of_le_of_lt (div-le_self flags (2 ^ from)) small)) some
+      pub lowest_flagged : flagged flags e ≡ true
+      lowest_flagged = head.passes
 
-      lowest_set : weight flags (from + count_trailing_zeros 64 f) ≡ 1
-      lowest_set = at (count_trailing_zeros 64 f) ∙ trailing_at 64 f lowest_small
+      pub lowest_known : e < length ws.counts
+      lowest_known = set_known t ws p flags marked e on
 
-      pub lowest_known : from + count_trailing_zeros 64 f < length ws.counts
-      lowest_known = set_known t ws p flags marked _ lowest_set
+      pub lowest_begins : begins (pattern_at ws e) 0 32 (bits_at t.bytes p 32) ≡ true
+      lowest_begins = set_begins t ws p flags marked e on
 
-      pub lowest_begins : begins (pattern_at ws (from + count_trailing_zeros 64 f)) 0 32 (bits_at t.bytes p 32) ≡ true
-      lowest_begins = set_begins t ws p flags marked _ lowest_set
+      -- as many numbers are written as patterns passed, at most
+      pub few_found : count < 64
+      few_found = omega (arith, g.writing.count, among_length stands_there 0 g.from, head.low, lowest_known, few)
+
+      others : ones f' ≡ among (flagged flags) (e + 1) (64 - (e + 1))
+      others = let size : g.from + (64 - g.from) - (e + 1) ≡ 64 - (e + 1) = omega (arith, g.upto, few) in head.rest ∙ ap (among (flagged flags) (e + 1)) size
 
       -- those between are settled with it
-      passed : (b : Bool) → b ≡ occurs t (pattern_at ws (from + count_trailing_zeros 64 f)) p
-          → among (λ i. occurs t (pattern_at ws i) p) 0 (from + count_trailing_zeros 64 f + 1)
-          ≡ among (λ i. occurs t (pattern_at ws i) p) 0 from ++ keep b (from + count_trailing_zeros 64 f) []
+      passed : (b : Bool) → stands_there e ≡ b → among stands_there 0 (e + 1) ≡ among stands_there 0 g.from ++ keep b e []
       unfolding among
-      passed b e =
-          let y : ℕ = count_trailing_zeros 64 f in
-          let test : ℕ → Bool = λ i. occurs t (pattern_at ws i) p in
-          let between : among test from y ≡ []
-          = among_none test from y (λ i l u.
-          let there : from + (i - from) ≡ i = omega arith in
-          unset t ws p flags marked i (omega (arith, lowest_known))
-          (ap (weight flags) (sym there) ∙ at (i - from) ∙ trailing_below 64 f (i - from) (omega arith))) in
-          let front : among test 0 (from + y) ≡ among test 0 from
-          = among_append test 0 from y
-          ∙ ap (λ (l : List ℕ). among test 0 from ++ l) (ap (λ (a : ℕ). among test a y) (zero-add from) ∙ between)
+      passed b is =
+          let whole : e ≡ g.from + (e - g.from) = omega (arith, head.low) in
+          let between : among stands_there g.from (e - g.from) ≡ []
+          = among_none stands_there g.from (e - g.from) (λ i l u. clear i (omega (arith, lowest_known)) (head.between i l (omega arith))) in
+          let front : among stands_there 0 e ≡ among stands_there 0 g.from
+          = ap (among stands_there 0) whole
+          ∙ among_append stands_there 0 g.from (e - g.from)
+          ∙ ap (λ (l : List ℕ). among stands_there 0 g.from ++ l) (ap (λ (a : ℕ). among stands_there a (e - g.from)) (zero-add g.from) ∙ between)
           ∙ append-nil _ in
-          let last : among test (0 + (from + y)) 1 ≡ keep b (from + y) []
-          = ap (λ (a : ℕ). among test a 1) (zero-add (from + y)) ∙ ap (λ (c : Bool). keep c (from + y) []) (sym e) in
-          among_append test 0 (from + y) 1 ∙ ap₂ ◌++◌ front last
+          let last : among stands_there (0 + e) 1 ≡ keep b e []
+          = ap (λ (a : ℕ). among stands_there a 1) (zero-add e) ∙ ap (λ (c : Bool). keep c e []) is in
+          among_append stands_there 0 e 1 ∙ ap₂ ◌++◌ front last
 
-      -- the flags after it
-      others : f / 2 ^ count_trailing_zeros 64 f / 2 ^ 1 ≡ flags / 2 ^ (from + count_trailing_zeros 64 f + 1)
-      others =
-          let there : from + (count_trailing_zeros 64 f + 1) ≡ from + count_trailing_zeros 64 f + 1 = omega arith in
-          shr-shr f (count_trailing_zeros 64 f) 1
-          ∙ ap (λ (x : ℕ). x / 2 ^ (count_trailing_zeros 64 f + 1)) g.rest
-          ∙ shr-shr flags from (count_trailing_zeros 64 f + 1)
-          ∙ ap (λ (n : ℕ). flags / 2 ^ n) there
+      -- its pattern does not stand there
+      pub finding_miss : stands_there e ≡ false → Finding t ws p flags before numbers f' count
+      finding_miss is =
+          let same : among stands_there 0 (e + 1) ≡ among stands_there 0 g.from = passed false is ∙ append-nil _ in
+          record { from = e + 1; upto = omega (arith, lowest_known); rest = others; writing = rw same g.writing }
 
-      module _ (b : Bool) (same : b ≡ occurs t (pattern_at ws (from + count_trailing_zeros 64 f)) p) where
-        -- its pattern does not stand there
-        pub finding_miss : b ≡ false → Finding t ws p flags before numbers (f / 2 ^ count_trailing_zeros 64 f / 2 ^ 1) (from + count_trailing_zeros 64 f + 1) count
-        finding_miss e =
-            let gone : among (λ i. occurs t (pattern_at ws i) p) 0 (from + count_trailing_zeros 64 f + 1) ≡ among (λ i. occurs t (pattern_at ws i) p) 0 from
-            = passed false (sym e ∙ same) ∙ append-nil _ in
-            record { upto = omega (arith, lowest_known); rest = others; writing = rw gone g.writing }
-
-        -- it does
-        pub finding_hit : b ≡ true → count < length before
-            → Finding t ws p flags before (set numbers count (from + count_trailing_zeros 64 f)) (f / 2 ^ count_trailing_zeros 64 f / 2 ^ 1) (from + count_trailing_zeros 64 f + 1) (count + 1)
-        finding_hit e room =
-            record {
-              upto = omega (arith, lowest_known);
-              rest = others;
-              writing = rw (passed true (sym e ∙ same))
-                  (writing_more before 0 (among (λ i. occurs t (pattern_at ws i) p) 0 from) numbers count (from + count_trailing_zeros 64 f) g.writing room);
-            }
+      -- it does
+      pub finding_hit : stands_there e ≡ true → count < length before → Finding t ws p flags before (set numbers count e) f' (count + 1)
+      finding_hit is room =
+          record {
+            from = e + 1;
+            upto = omega (arith, lowest_known);
+            rest = others;
+            writing = rw (passed true is) (writing_more before 0 (among stands_there 0 g.from) numbers count e g.writing room);
+          }
 
 -- Pairs written
 

@@ -1,13 +1,11 @@
 -- What the parts of a call promise each other.
-use Rattle.std.specs.Prelude.{ℕ, ◌+◌, ◌-◌, ◌*◌, ◌^◌, ◌≤◌, ◌<◌, ◌≡◌, Bool, true, false, List, map, eqb, length, get_or, Result, Ok, Err}
+use Rattle.std.specs.Prelude.{ℕ, ◌+◌, ◌-◌, ◌*◌, ◌^◌, ◌≤◌, ◌<◌, ◌≡◌, Bool, true, false, List, map, length, get_or, Result, Ok, Err}
 use Rattle.std.proofs.lemmas.List.Edits.{sets}
-use Rattle.bits.specs.Packed.{Packed, bytes_for, bits_at, weight}
-use Rattle.rules.specs.Ranges.{among}
+use Rattle.bits.specs.Packed.{Packed, bytes_for, bits_at}
 use Rattle.search.specs.Verdict.{Verdict, refused, accepted, ending_of}
 use Rattle.search.specs.Parts.{ending_at}
 use Rattle.matcher.specs.declared.steps.Reached.{Reached}
 use Rattle.matcher.specs.declared.steps.Full.{Full}
-use Rattle.matcher.specs.Progress.{Writing}
 use Rattle.matcher.specs.Ready.{text_of}
 use Rattle.set.specs.declared.Answer.{Answer}
 use Rattle.set.specs.declared.Refusal.{Refusal}
@@ -38,10 +36,6 @@ pub record Allowed (t : Packed) (ws : PatternSet) (s : ℕ) : Type 0 where
   pub bytes_there : bytes_for t.count ≤ length t.bytes
   pub patterns : GoodSet ws
   pub inside : s ≤ set_places t ws
-
--- the numbers of the flags that are set, lowest first, are the front of `numbers`
-abbrev pub Listed : ℕ → List ℕ → List ℕ → ℕ → Type 0
-Listed flags before numbers count = Writing before 0 (among (λ i. eqb (weight flags i) 1) 0 64) numbers count
 
 -- the pairs of a place are written after `had` others
 abbrev pub PairsWritten : List ℕ → ℕ → ℕ → List ℕ → List ℕ → Type 0

@@ -5,6 +5,7 @@ ghost use Rattle.set_tables.specs.Parts.{lent};
 ghost use Rattle.set.specs.Parts.{Allowed, TellsOf, Leaves};
 
 use crate::finder::Finder;
+use crate::ones::Ones;
 use crate::{Answer, check, step};
 use bits::{Place, load};
 use matcher::steps::{Full, Reached};
@@ -32,16 +33,10 @@ impl<'a> Finder<'a> {
     {
         let mut numbers = [0u32; 64];
         let room = list.len() / 2;
-        let start = base.0;
-        let mut next = from.0 - start;
-        let mut m = scan::marks(found) >> next;
+        let skip = from.0 - base.0;
         let mut hits = 0usize;
-        while m != 0 {
-            let z = u64::trailing_zeros(m);
-            let e = next + z;
-            m = (m >> z) >> 1;
-            next = e + 1;
-            let p = Place(start + e);
+        for e in Ones((scan::marks(found) >> skip) << skip) {
+            let p = Place(base.0 + e);
             if to.0 <= p.0 {
                 return Ok(hits);
             }

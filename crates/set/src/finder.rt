@@ -1,7 +1,7 @@
 // What the steps of a call look at.
 ghost use Rattle.std.specs.Prelude.{◌^◌, ◌≤◌, length};
 ghost use Rattle.set_tables.specs.Fronts.{Tables, Kept};
-ghost use Rattle.set_tables.specs.Parts.{set_of, GoodSet};
+ghost use Rattle.set_tables.specs.Parts.{lent, GoodSet};
 ghost use Rattle.set.specs.Lengths.{Lengths};
 
 use set_tables::Patterns;
@@ -25,10 +25,10 @@ pub struct Finder<'a> {
     pub sure: Sure,
     pub cells: &'a [u64],
     pub ghost few_bits: { n ≤ 2 ^ 30 },
-    pub ghost good: { GoodSet (set_of patterns.bytes.now patterns.fixed.now patterns.counts.now) },
-    pub ghost kept: { Kept (set_of patterns.bytes.now patterns.fixed.now patterns.counts.now) (length patterns.counts.now) rows.now },
+    pub ghost good: { GoodSet (lent patterns) },
+    pub ghost kept: { Kept (lent patterns) (length patterns.counts.now) rows.now },
     pub ghost rows_there: { 192 ≤ length rows.now },
     pub ghost lengths: { Lengths n patterns.counts.now sure.until sure.long },
-    pub ghost tables: { Tables (set_of patterns.bytes.now patterns.fixed.now patterns.counts.now) cells.now },
+    pub ghost tables: { Tables (lent patterns) cells.now },
     pub ghost cells_there: { 1024 ≤ length cells.now },
 }

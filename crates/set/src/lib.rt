@@ -10,6 +10,7 @@
 mod call;
 mod check;
 mod finder;
+mod ones;
 mod step;
 
 ghost use Rattle.std.specs.Prelude.{◌≡◌};

@@ -1,26 +1,11 @@
 // One step: which patterns stand at a place, and their pairs written.
 ghost use Rattle.std.specs.Prelude.{◌≡◌, ◌*◌, ◌≤◌, length};
-ghost use Rattle.set.specs.Parts.{Listed, PairsWritten};
+ghost use Rattle.set.specs.Parts.{PairsWritten};
 
 use crate::finder::Finder;
+use crate::ones::Ones;
 use bits::Place;
 use matcher::query::{Pattern, Query};
-
-// The numbers of the flags that are set, lowest first, into the front of `numbers`, and how many they are.
-fn listed(flags: u64, numbers: &mut [u32]) -> usize
-    requires { 64 ≤ length numbers.old }
-    ensures { Listed flags numbers.old numbers.new result }
-{
-    let mut f = flags;
-    let mut count = 0usize;
-    while f != 0 {
-        let i = u64::trailing_zeros(f);
-        f = f & (f - 1);
-        numbers[count] = i;
-        count += 1;
-    }
-    count
-}
 
 // Writes the pairs of a place: the place and each number.
 pub fn write(list: &mut [u32], p: Place, numbers: &[u32])
@@ -35,6 +20,7 @@ pub fn write(list: &mut [u32], p: Place, numbers: &[u32])
 }
 
 impl<'a> Finder<'a> {
+    ghost use Rattle.std.specs.Int.Bits.{bit_and};
     ghost use Rattle.std.specs.Prelude.{◌≡◌, true, ◌^◌, ◌≤◌, ◌<◌, length};
     ghost use Rattle.bits.specs.Packed.{bits_at};
     ghost use Rattle.rules.specs.Occurrence.{occurs};
@@ -74,6 +60,13 @@ impl<'a> Finder<'a> {
         query.same(p)
     }
 
+    // Whether each of the patterns with these flags fits at p and has no more bits than the tables compare.
+    fn all_stand(&self, p: Place, flags: u64) -> bool
+        ensures { result ≡ true → (p.0 < self.now.sure.until) × (bit_and flags self.now.sure.long ≡ 0) }
+    {
+        p.0 < self.sure.until && flags & self.sure.long == 0
+    }
+
     // The numbers of the patterns that stand at p, into the front of `numbers`, and how many they are. The flags are those of
     // the patterns whose first 32 bits agree with the text there; where each of these fits and has no more bits, they all
     // stand.
@@ -83,20 +76,10 @@ impl<'a> Finder<'a> {
         requires p_bound { p.0 ≤ 2 ^ 30 }
         ensures { Writing numbers.old 0 (standing (text_in self.now) (set_in self.now) p.0) numbers.new result }
     {
-        if p.0 < self.sure.until {
-            if flags & self.sure.long == 0 {
-                return listed(flags, numbers);
-            }
-        }
-        let mut f = flags;
-        let mut from = 0u32;
+        let all = self.all_stand(p, flags);
         let mut count = 0usize;
-        while f != 0 {
-            let z = u64::trailing_zeros(f);
-            let i = from + z;
-            f = (f >> z) >> 1;
-            from = i + 1;
-            if self.stands(i as usize, p) {
+        for i in Ones(flags) {
+            if all || self.stands(i as usize, p) {
                 numbers[count] = i;
                 count += 1;
             }
