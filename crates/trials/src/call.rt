@@ -56,7 +56,12 @@ fn answered(outcome: Result<Answer, Refusal>) -> Result<Run, Refused> {
 }
 
 // The search's call.
-fn made(c: Call, s: &[u8], list: &mut [u32], scratch: &mut [u64; SCRATCH]) -> Result<Answer, Refusal> {
+fn made(
+    c: Call,
+    s: &[u8],
+    list: &mut [u32],
+    scratch: &mut [u64; SCRATCH],
+) -> Result<Answer, Refusal> {
     let room = c.room.min(list.len());
     let end = c.scratch.min(SCRATCH - GUARD) + GUARD;
     let mark = Mark {
