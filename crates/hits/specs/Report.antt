@@ -1,5 +1,6 @@
 -- What the functions of the program promise each other.
-use Rattle.std.specs.Prelude.{ℕ}
+use Rattle.std.specs.Prelude.{ℕ, Ok, Err}
+use Rattle.search.specs.Verdict.{Outcome, number_of_refusal}
 
 -- how many bytes are read at most: one more than the longest good input has
 abbrev pub input_most : ℕ
@@ -18,3 +19,8 @@ line_most = 45084
 
 abbrev pub printed_most : ℕ
 printed_most = 225420
+
+-- the number of a refused call; an accepted one has none, which is 0 here
+abbrev pub number_in : Outcome → ℕ
+number_in (Ok a) = 0
+number_in (Err r) = number_of_refusal r

@@ -2,12 +2,12 @@
 ghost use Rattle.std.specs.Prelude.{◌≡◌, ◌+◌, ◌-◌, ◌≤◌, [], ◌++◌};
 ghost use Rattle.arrayvec.specs.ArrayVec.{array_vec_len};
 ghost use Rattle.hits.specs.Printed.{fixed_pattern, search_line, five_lines, printed};
-ghost use Rattle.hits.specs.Report.{places_most, pattern_most, line_most, printed_most};
+ghost use Rattle.hits.specs.Report.{number_in, places_most, pattern_most, line_most, printed_most};
 
 use arrayvec::ArrayVec;
 use lines::parse::Lines;
 use lines::{line, pack, parse};
-use search::{Mark, Method};
+use search::{Answer, Mark, Method, Refusal};
 
 // "budget 2^32 − 1"
 const BUDGET: u32 = u32::MAX;
@@ -35,6 +35,16 @@ const METHODS: [Method; 5] = [
     Method::Tail,
 ];
 
+// The number of a refused call; an accepted one has none.
+fn number_in(outcome: Result<Answer, Refusal>) -> u32
+    ensures { result ≡ number_in outcome }
+{
+    match outcome {
+        Ok(_) => 0,
+        Err(why) => why.number(),
+    }
+}
+
 // Searches the first n bits of the text for the pattern of m bits by one method, and appends its line. There are at most
 // 4,096 places, and a cell for each; and the pattern has no more bits than any search takes.
 fn search_line(text: &[u8], n: u64, pattern: &[u8], m: u64, method: Method, page: &mut Page)
@@ -57,9 +67,7 @@ fn search_line(text: &[u8], n: u64, pattern: &[u8], m: u64, method: Method, page
         &mut scratch,
     );
     let Ok(answer) = outcome else {
-        if let Err(why) = outcome {
-            line::refused(page, method, why.number());
-        }
+        line::refused(page, method, number_in(outcome));
         return;
     };
     let places = &list[..answer.occurrences as usize];

@@ -21,10 +21,10 @@ made c =
       promise = c.search-outcome.ensures;
     }
 
-pub returns-in-Ok-clause-is : goal.returns-in-Ok-clause-is
-returns-in-Ok-clause-is c =
-    rw (← accepted_printed (made (goal.at.returns-in-Ok-clause-is c).After-search-outcome) c.in-Ok.is) c.accepted.ensures.is
+pub returns-in_default-clause-is : goal.returns-in_default-clause-is
+returns-in_default-clause-is c =
+    rw (← refused_printed (made (goal.at.returns-in_default-clause-is c).After-search-outcome) c.in_default.is (rw c.in_default.is at c.number_in.ensures)) c.refused.ensures.is
 
-pub returns-in-Err-clause-is : goal.returns-in-Err-clause-is
-returns-in-Err-clause-is c =
-    rw (← refused_printed (made (goal.at.returns-in-Err-clause-is c).After-search-outcome) c.in-Err.is c.number.ensures) c.refused.ensures.is
+pub returns-clause-is : goal.returns-clause-is
+returns-clause-is c =
+    rw (← accepted_printed (made (goal.at.returns-clause-is c).After-search-outcome) c.in-Ok.is) c.accepted.ensures.is
