@@ -459,6 +459,11 @@ def followed(crates):
         faults += reader.faults
         for call in reader.calls:
             reach(call, depths[function] + 1)
+    # What the language may call with no name: no followed function has a value of such a type where the module is its crate's
+    # own and none of them is in that crate.
+    for module, line, trait in program.foreign:
+        if not module.hidden or any(f.module.path[0] == module.path[0] for f in depths):
+            faults.append("%s:%d: cannot tell what calls %s" % (module.file, line, trait))
     return depths, list(dict.fromkeys(faults))
 
 
@@ -726,6 +731,7 @@ ELSEWHERE = [("capi/src/scan.rt", [(NAMED_IN_SEARCH, text)], "another method ask
     ("search/src/lib.rt", [("M::step(search, ", "M::nowhere(search, ")], "cannot find M::nowhere"),
     ("plain/src/lib.rt", [("impl Matcher for Plain", "impl Nowhere for Plain")], "cannot tell what calls Nowhere"),
     ("plain/src/lib.rt", [("use bits::{ByteNo, Place, load};", "use bits::{ByteNo, Place, loads};")], "cannot find load::word_near_end"),
+    ("set/src/lib.rt", [("\nmod ones;", "\npub mod ones;")], "cannot tell what calls Iterator"),
     ("bits/src/load.rt", [("fn join(", "fn joined(")], "cannot find join"),
     ("bits/src/lib.rt", [("impl Place {", "macro_rules! held {}\nimpl Place {")], "no item begins with macro_rules"),
 ]

@@ -133,8 +133,13 @@ class Item:
 
 class Module:
     def __init__(self, path, parent, file):
-        self.path, self.parent, self.file = path, parent, file
+        self.path, self.parent, self.file, self.private = path, parent, file, False
         self.types, self.values, self.uses = {}, {}, {}
+
+    @property
+    def hidden(self):
+        """Whether other crates cannot name what is in it."""
+        return self.private or self.parent is not None and self.parent.hidden
 
 
 class Type(Item):
@@ -222,7 +227,7 @@ class Program:
     """The crates below a folder `crates` that some of them rest on, and these, and which of them each one sees."""
 
     def __init__(self, crates, tops):
-        self.crates, self.roots, self.sees, self.types, self.impls = crates, {}, {}, [], []
+        self.crates, self.roots, self.sees, self.types, self.impls, self.foreign = crates, {}, {}, [], [], []
         with open(os.path.join(os.path.dirname(os.path.abspath(crates)), "crates.txt"), encoding="utf-8") as lines:
             for line in lines:
                 name, colon, below = line.split("#")[0].partition(":")
@@ -282,6 +287,7 @@ class Program:
                     folder += "/" + module.path[-1]
                 name = tokens[i + 1]
                 module.types[name] = self.module(module.path + [name], module, "%s/%s.rt" % (folder, name))
+                module.types[name].private = tokens[i - 1] != "pub"
                 i += 3
             elif t in ("struct", "enum"):
                 i = self.declared(tokens, i, module)
@@ -315,7 +321,7 @@ class Program:
                 raise Unread("%s:%d: no item begins with %s" % (module.file, t.line, t))
 
     def implemented(self, module, head, inside):
-        """The items of an `impl`. That of a trait which none of the crates has cannot be read: the language itself may call
+        """The items of an `impl`. That of a trait which none of the crates has is only noted: the language itself may call
         its functions, with no name."""
         params, at = [], 1
         if head[at] == "<":
@@ -329,7 +335,8 @@ class Program:
         if of_trait < len(head):
             trait = self.found(module, path_at(head, at))
             if not isinstance(trait, Trait) or not self.is_whole(head[at:of_trait]):
-                raise Unread("%s:%d: cannot tell what calls %s" % (module.file, head[0].line, " ".join(head[at:of_trait])))
+                self.foreign.append((module, head[0].line, " ".join(head[at:of_trait])))
+                return
             of.traits.append((trait, [inside[i + 1] for i, t in enumerate(inside) if t == "fn"]))
         self.items(inside, module, of, named, params)
 
