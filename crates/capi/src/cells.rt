@@ -1,4 +1,5 @@
-// An accepted call stores its numbers, one to four, to the first answer cells, and returns 0.
+// An accepted call stores its numbers, one to four, to the first answer cells, and returns 0. A function for each count, and not
+// one over an array, since no function that a search for one pattern runs may have an array.
 ghost use Rattle.std.specs.Prelude.{[], ◌∷◌, ◌≤◌, length};
 ghost use Rattle.capi.specs.Told.{gives, Tells};
 

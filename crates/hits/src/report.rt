@@ -35,7 +35,8 @@ const METHODS: [Method; 5] = [
     Method::Tail,
 ];
 
-// The number of a refused call; an accepted one has none.
+// The number of a refused call; an accepted one has none. `let .. else` binds the accepted answer alone, so the number is asked
+// of the whole outcome.
 fn number_in(outcome: Result<Answer, Refusal>) -> u32
     ensures { result ≡ number_in outcome }
 {
