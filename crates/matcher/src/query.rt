@@ -17,7 +17,7 @@ pub struct Pattern<'a> {
 
 // A text and its bit count, a pattern, and the pattern's head. That is the first 57 bits, or all of a shorter pattern, at the
 // left of a word: `mask` has a 1 for each of them that is fixed, and `head` its value there.
-#[derive(Drop)]
+#[derive(Clone, Copy)]
 pub struct Query<'a> {
     pub text: &'a [u8],
     pub n: u32,
@@ -25,7 +25,6 @@ pub struct Query<'a> {
     pub head: u64,
     pub mask: u64,
     pub ghost some_bits: { 0 < pattern.m },
-    pub ghost few_bits: { pattern.m ≤ 2048 },
     pub ghost head_of: { HeadOf (pattern_of pattern.bytes.now pattern.fixed.now pattern.m) head mask },
 }
 
@@ -38,7 +37,7 @@ impl<'a> Query<'a> {
 
     // Takes the head from the pattern.
     pub fn new(text: &'a [u8], n: u32, pattern: Pattern<'a>) -> Query<'a>
-        requires { (0 < pattern.m) × (pattern.m ≤ 2048) }
+        requires { 0 < pattern.m }
         ensures { (result.text ≡ text.entry) × (result.n ≡ n) × (result.pattern ≡ pattern.entry) }
     {
         let mask = load::word_near_end(pattern.fixed, ByteNo(0)) & front(pattern.m);
@@ -54,7 +53,7 @@ impl<'a> Query<'a> {
     // Whether the pattern stands at s, by all of its bits, where no load needs a test for the end: the text goes on far enough
     // after them, and either run has its bytes. The last load overlaps the one before it.
     fn stands_inside(&self, s: Place) -> bool
-        requires { (56 < self.now.pattern.m) × (s.0 ≤ 2 ^ 30) × (s.0 / 8 + self.now.pattern.m / 8 + 9 ≤ length self.now.text.now) × (bytes_for self.now.pattern.m ≤ length self.now.pattern.bytes.now) × (bytes_for self.now.pattern.m ≤ length self.now.pattern.fixed.now) }
+        requires { (56 < self.now.pattern.m) × (self.now.pattern.m ≤ 2048) × (s.0 ≤ 2 ^ 30) × (s.0 / 8 + self.now.pattern.m / 8 + 9 ≤ length self.now.text.now) × (bytes_for self.now.pattern.m ≤ length self.now.pattern.bytes.now) × (bytes_for self.now.pattern.m ≤ length self.now.pattern.fixed.now) }
         ensures { result ≡ matches (text_of self.now.text.now 0) (pattern_in self.now) s.0 }
     {
         let Pattern { bytes, fixed, m } = self.pattern;
@@ -85,7 +84,7 @@ impl<'a> Query<'a> {
 
     // The same for a short pattern, and where the text ends sooner.
     fn stands_near_end(&self, s: Place) -> bool
-        requires { s.0 ≤ 2 ^ 30 }
+        requires { (self.now.pattern.m ≤ 2048) × (s.0 ≤ 2 ^ 30) }
         ensures { result ≡ matches (text_of self.now.text.now 0) (pattern_in self.now) s.0 }
     {
         let Pattern { bytes, fixed, m } = self.pattern;
@@ -117,7 +116,7 @@ impl<'a> Query<'a> {
 
     // Whether the pattern stands at s.
     pub fn stands(&self, s: Place) -> bool
-        requires { s.0 ≤ 2 ^ 30 }
+        requires { (self.now.pattern.m ≤ 2048) × (s.0 ≤ 2 ^ 30) }
         ensures { result ≡ matches (text_of self.now.text.now 0) (pattern_in self.now) s.0 }
     {
         let Pattern { bytes, fixed, m } = self.pattern;
@@ -132,10 +131,11 @@ impl<'a> Query<'a> {
         self.stands_near_end(s)
     }
 
-    // The same, for `same` alone: a call in its place keeps it small enough to be inlined.
-    fn rest(&self, s: Place) -> bool
-        requires { s.0 ≤ 2 ^ 30 }
-        ensures { result ≡ matches (text_of self.now.text.now 0) (pattern_in self.now) s.0 }
+    // The same, for `same` alone: a call in its place keeps it small enough to be inlined. The query is copied for it, so that a
+    // caller that makes a query for one place stores it only where the first load does not rule the place out.
+    fn rest(self, s: Place) -> bool
+        requires { (self.pattern.m ≤ 2048) × (s.0 ≤ 2 ^ 30) }
+        ensures { result ≡ matches (text_of self.entry.text.now 0) (pattern_in self.entry) s.0 }
     {
         self.stands(s)
     }
@@ -143,7 +143,7 @@ impl<'a> Query<'a> {
     // And for a hot loop: one load rules most places out, and `stands`, which is called and not inlined since other
     // code uses it too, settles the others.
     pub fn same(&self, s: Place) -> bool
-        requires { s.0 ≤ 2 ^ 30 }
+        requires { (self.now.pattern.m ≤ 2048) × (s.0 ≤ 2 ^ 30) }
         ensures { result ≡ matches (text_of self.now.text.now 0) (pattern_in self.now) s.0 }
     {
         if s.byte().0 + 8 <= self.text.len() {

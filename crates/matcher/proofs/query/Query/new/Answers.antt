@@ -8,7 +8,6 @@ pub invariant_of-result : goal.invariant_of-result
 invariant_of-result c =
     let p = c.args.pattern in
     record {
-      some_bits = c.requires.0;
-      few_bits = c.requires.1;
+      some_bits = c.requires;
       head_of = head_is p.bytes.now p.fixed.now p.m c.word_near_end-2.ensures c.word_near_end.ensures (omega arith) c.front.ensures;
     }
