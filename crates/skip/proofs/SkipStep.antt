@@ -18,7 +18,7 @@ use Rattle.matcher.specs.Progress.{Stepped, Writing, Advanced}
 use Rattle.rules.proofs.Ranges.{among_same}
 use Rattle.rules.proofs.Occurrence.{occurrences_append, occurrences_one}
 use Rattle.matcher.proofs.Advancing.{advanced_step}
-use Rattle.matcher.proofs.Writing.{writing_more, writing_length, stepped_whole, stepped_full}
+use Rattle.matcher.proofs.Writing.{writing_none, writing_more, writing_length, stepped_whole, stepped_full}
 use Rattle.rules.proofs.Skip.{reaches_byte, shown_occurs}
 use Rattle.skip.proofs.SkipPlaces.{chained_span}
 
@@ -90,6 +90,14 @@ module _ (t : Packed) (w : Pattern) where
   turn_whole s budget before had at steps hits list room made few long b last inside at' hits' list' u =
       let ahead_is : at' ≡ 8 * b + 1 = u.mark ∙ skip_next_is at long ∙ ap (λ (x : ℕ). min (8 * x + 1) (places t w)) (sym last) ∙ omega arith in
       rw ahead_is at (advanced_step Skip t w s budget before had at steps hits list room made at' hits' false list' (mark_below at b long last inside) few u)
+
+  -- The same by a byte that no index shows.
+  pub turn_quiet : (s budget : ℕ) (before : List ℕ) (had at steps hits : ℕ) (list : List ℕ) → had ≤ length before
+      → Advanced Skip t w s budget before had at steps hits false list → steps < budget → 15 ≤ w.count → (b : ℕ) → b ≡ last_byte w at → 8 * b < places t w
+      → hits ≤ length list → occurrences t w at (8 * b + 1) ≡ [] → Advanced Skip t w s budget before had (8 * b + 1) (steps + 1) hits false list
+  turn_quiet s budget before had at steps hits list room made few long b last inside fits none =
+      turn_whole s budget before had at steps hits list room made few long b last inside (8 * b + 1) hits list
+      (skip_all at list hits list hits b (sym last) inside long (rw none (writing_none list hits fits)))
 
 -- 8 b + 1 as a mark
 pub top_odd : (b at : ℕ) → at ≡ 8 * b + 1 → at % 8 ≡ 1

@@ -3,11 +3,13 @@
 // index j. The tables (`skip_tables`) tell these indices, highest first; so their places rise, and only these are compared.
 //
 // After a step the mark is 8 b + 1: `first_step` makes one step from any mark, through links that keep to its places, and `many`
-// makes many from such marks. Both are compiled for each kind of tables: a loop for each is faster than one for both.
+// makes many from such marks. It has a loop for bytes that no index shows, since these are most bytes of most texts, and leaves runs
+// of other bytes to `busy`. All three are compiled for each kind of tables: a loop for each is faster than one for both.
 #![tactic(auto)]
 
-ghost use Rattle.std.specs.Prelude.{◌≡◌, ◌↔◌, true, get_or, ◌+◌, ◌-◌, ◌*◌, ◌%◌, ◌≤◌, ◌<◌};
-ghost use Rattle.rules.specs.Occurrence.{places};
+ghost use Rattle.std.specs.Prelude.{◌≡◌, ◌↔◌, true, [], IfOk, get_or, ◌+◌, ◌-◌, ◌*◌, ◌%◌, ◌≤◌, ◌<◌};
+ghost use Rattle.rules.specs.Occurrence.{places, occurrences};
+ghost use Rattle.rules.specs.Skip.{last_byte};
 ghost use Rattle.matcher.specs.Tables.{chained};
 ghost use Rattle.skip_tables.specs.SkipChains.{Flagging};
 ghost use Rattle.matcher.specs.Asked.{lent, text_in, pattern_in};
@@ -86,6 +88,11 @@ fn first_step<K: Walk>(by: &SearchBy<K>, s: Place, list: &mut [u32]) -> Result<R
 
 // Steps from marks 8 a + 1, none of whose places lies past the number of places.
 trait Steps: Walk {
+    // Whether one look tells that no index shows the byte b, so that the step by it finds nothing.
+    fn quiet(by: &SearchBy<Self>, b: ByteNo) -> bool
+        requires { (chained by.now.search.now.query.pattern.m ≤ 8 * b.0) × (8 * b.0 < places (text_in by.now.search.now.query) (pattern_in by.now.search.now.query)) }
+        ensures { result ≡ true → occurrences (text_in by.now.search.now.query) (pattern_in by.now.search.now.query) (8 * b.0 + 1 - chained by.now.search.now.query.pattern.m) (8 * b.0 + 1) ≡ [] };
+
     // The step by the last byte b that all its places contain: they are those of the indices that show the byte. The mark lies
     // as many places before 8 b + 1 as indices are chained.
     fn step(by: &SearchBy<Self>, b: ByteNo, list: &mut [u32]) -> Result<Reached, Full>
@@ -93,9 +100,7 @@ trait Steps: Walk {
         ensures { StepGives Method.Skip (text_in by.now.search.now.query) (pattern_in by.now.search.now.query) (8 * b.0 + 1 - chained by.now.search.now.query.pattern.m) list.old result list.new };
 }
 
-// The places of b's chain, from its head on, each compared. The place of a link j is 8 b + 1 - j. Most chains are empty: by
-// `cold` the loop over these keeps its registers, a tenth to a fifth faster.
-#[cold]
+// The places of b's chain, from its head on, each compared. The place of a link j is 8 b + 1 - j.
 fn walk(by: &SearchBy<Chains>, b: ByteNo, list: &mut [u32]) -> Result<Reached, Full>
     requires { (chained by.now.search.now.query.pattern.m ≤ 8 * b.0) × (8 * b.0 < places (text_in by.now.search.now.query) (pattern_in by.now.search.now.query)) }
     ensures { StepGives Method.Skip (text_in by.now.search.now.query) (pattern_in by.now.search.now.query) (8 * b.0 + 1 - chained by.now.search.now.query.pattern.m) list.old result list.new }
@@ -125,25 +130,20 @@ fn walk(by: &SearchBy<Chains>, b: ByteNo, list: &mut [u32]) -> Result<Reached, F
 }
 
 impl Steps for Chains {
-    // Where the chain is empty, as most are, there is nothing to walk.
-    fn step(by: &SearchBy<Chains>, b: ByteNo, list: &mut [u32]) -> Result<Reached, Full> {
+    fn quiet(by: &SearchBy<Chains>, b: ByteNo) -> bool {
         let query = &by.search.query;
         let cells = by.search.cells;
         let here = b.0;
-        if cells[query.text[here] as usize] == 0 {
-            return Ok(Reached {
-                at: b.place_at(1),
-                steps: 1,
-                hits: 0,
-            });
-        }
+        cells[query.text[here] as usize] == 0
+    }
+
+    fn step(by: &SearchBy<Chains>, b: ByteNo, list: &mut [u32]) -> Result<Reached, Full> {
         walk(by, b, list)
     }
 }
 
 // The flags of a block after those of another, lowest first, from this one on. The place of a block's flag e is 8 b + 8 + 57 times
-// the block's number + e, less m. Most bytes have no flag, so it is cold as well.
-#[cold]
+// the block's number + e, less m.
 fn sweep(by: &SearchBy<Words>, b: ByteNo, first: Block, list: &mut [u32]) -> Result<Reached, Full>
     requires m_bound { (chained by.now.search.now.query.pattern.m ≤ 8 * b.0) × (8 * b.0 < places (text_in by.now.search.now.query) (pattern_in by.now.search.now.query)) }
     requires flagging { Flagging (pattern_in by.now.search.now.query) (get_or by.now.search.now.query.text.now b.0 0) (chained by.now.search.now.query.pattern.m) first.number first.left }
@@ -180,7 +180,11 @@ fn sweep(by: &SearchBy<Words>, b: ByteNo, first: Block, list: &mut [u32]) -> Res
 }
 
 impl Steps for Words {
-    // Where no index shows the byte, there is nothing to sweep.
+    // No: to look for a flag takes as long as the step.
+    fn quiet(_by: &SearchBy<Words>, _b: ByteNo) -> bool {
+        false
+    }
+
     fn step(by: &SearchBy<Words>, b: ByteNo, list: &mut [u32]) -> Result<Reached, Full> {
         let query = &by.search.query;
         let m = query.pattern.m;
@@ -191,17 +195,44 @@ impl Steps for Words {
         };
         let byte = b.0;
         let v = query.text[byte];
-        let first = tables.first_block(v, indices(m));
-        match tables.next_block(v, first) {
-            Some(block) => sweep(by, b, block, list),
-            None => {
-                let at = b.place_at(1);
-                Ok(Reached {
-                    at,
-                    steps: 1,
-                    hits: 0,
-                })
+        sweep(by, b, tables.first_block(v, indices(m)), list)
+    }
+}
+
+// Steps from a mark 8 a + 1, the first of them made whatever its byte is, and more up to a byte that is quiet. With chains most
+// bytes of most texts are: by `cold` the loop over these keeps its registers, and where they are not, one call makes the steps of
+// a whole run of bytes.
+#[cold]
+fn busy<K: Steps>(
+    by: &SearchBy<K>,
+    s: Place,
+    budget: u32,
+    list: &mut [u32],
+) -> Result<Reached, Full>
+    requires s_bound { (s.0 % 8 ≡ 1) × (0 < budget) }
+    requires inside { 8 * last_byte (pattern_in by.now.search.now.query) s.0 < places (text_in by.now.search.now.query) (pattern_in by.now.search.now.query) }
+    ensures advanced { AdvanceGives Method.Skip (text_in by.now.search.now.query) (pattern_in by.now.search.now.query) s.0 budget list.old result list.new }
+    ensures onward { IfOk result (λ r. (r.at.0 % 8 ≡ 1) × (0 < r.steps)) }
+{
+    let query = &by.search.query;
+    let m = query.pattern.m;
+    let end = query.n - m + 1;
+    let stride = Place(indices(m)).byte().0;
+    let mut b = last_byte(s, m);
+    let mut steps = 0u32;
+    let mut hits = 0usize;
+    loop {
+        match K::step(by, b, &mut list[hits..]) {
+            Ok(one) => {
+                hits += one.hits;
             }
+            Err(cut) => return Err(cut.after(steps, hits)),
+        }
+        steps += 1;
+        let at = b.place_at(1);
+        b = ByteNo(b.0 + stride);
+        if end <= b.place().0 || budget <= steps || K::quiet(by, b) {
+            return Ok(Reached { at, steps, hits });
         }
     }
 }
@@ -226,15 +257,21 @@ fn many<K: Steps>(
     let mut steps = 0u32;
     let mut hits = 0usize;
     while b.place().0 < end && steps < budget {
-        match K::step(by, b, &mut list[hits..]) {
-            Ok(one) => {
-                hits += one.hits;
+        if K::quiet(by, b) {
+            steps += 1;
+            at = b.place_at(1).0;
+            b = ByteNo(b.0 + stride);
+        } else {
+            match busy(by, Place(at), budget - steps, &mut list[hits..]) {
+                Ok(more) => {
+                    steps += more.steps;
+                    hits += more.hits;
+                    at = more.at.0;
+                    b = last_byte(more.at, m);
+                }
+                Err(cut) => return Err(cut.after(steps, hits)),
             }
-            Err(cut) => return Err(cut.after(steps, hits)),
         }
-        steps += 1;
-        at = b.place_at(1).0;
-        b = ByteNo(b.0 + stride);
     }
     Ok(Reached {
         at: Place(at),

@@ -254,7 +254,7 @@ impl Kind for Words {
 impl Tables<'_, Words> {
     // The flags of the 57 moves from 57 c on: the words of the byte's last and of its first four bits, and in the last block
     // those after index 0 cut off.
-    fn flags(&self, v: u8, c: u32) -> u64
+    pub fn flags(&self, v: u8, c: u32) -> u64
         requires { 57 * c + 8 ≤ self.now.pattern.now.m }
         ensures { Flags (lent self.now.pattern.now) v self.now.pattern.now.m (57 * c) result }
     {

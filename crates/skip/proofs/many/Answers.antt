@@ -6,11 +6,11 @@ use Rattle.rules.specs.Pattern.{Pattern}
 use Rattle.rules.specs.Occurrence.{places}
 use Rattle.matcher.specs.Asked.{text_in, pattern_in}
 use Rattle.matcher.proofs.Writing.{writing_length}
-use Rattle.matcher.proofs.Advancing.{advanced_none, advanced_step}
-use Rattle.matcher.proofs.Rest.{stepped_rest}
+use Rattle.matcher.proofs.Advancing.{advanced_none, advanced_join}
+use Rattle.matcher.proofs.Rest.{advanced_rest}
 use Rattle.skip.proofs.SkipPlaces.{byte_from, next_byte}
 use Rattle.skip.proofs.SkipSizes.{long_enough}
-use Rattle.skip.proofs.SkipStep.{below_end, mark_from, mark_below, turn_whole, top_odd}
+use Rattle.skip.proofs.SkipStep.{below_end, mark_from, mark_below, turn_quiet, top_odd}
 use Rattle.skip.proofs.many.Given.{Over}
 use Rattle.skip.proofs.many.Goals as goal
 use Rattle.skip.proofs.many.Goals.{At-loop-b, In-loop-b, Start}
@@ -42,11 +42,18 @@ written g c =
     let size = writing_length _ _ _ _ _ u in
     omega (arith, size, u.fits)
 
-pub step-requires : goal.step-requires
-step-requires g c =
+pub quiet-requires : goal.quiet-requires
+quiet-requires g c =
     let l = c.loop-b in
     let q = c.args.by.now.search.now.query in
-    (byte_from l.at q.n q.pattern.m l.b.0 (long g (goal.at.step-requires g c).Start) l.invariant.1 l.invariant.0, due g (goal.at.step-requires g c).In-loop-b)
+    (byte_from l.at q.n q.pattern.m l.b.0 (long g (goal.at.quiet-requires g c).Start) l.invariant.1 l.invariant.0, due g (goal.at.quiet-requires g c).In-loop-b)
+
+pub busy-requires : goal.busy-requires
+busy-requires g c =
+    record {
+      s_bound = (c.loop-b.invariant.0, omega (arith, c.if-steps-budget.true));
+      inside = rw c.loop-b.invariant.1 at (due g (goal.at.busy-requires g c).In-loop-b);
+    }
 
 pub returns-in-Err : goal.returns-in-Err
 returns-in-Err g c =
@@ -55,13 +62,10 @@ returns-in-Err g c =
     let s = (goal.at.returns-in-Err g c).Start in
     let t = text g s in
     let w = pattern g s in
-    let from = mark_from t w l.at l.b.0 (long g s) l.invariant.0 l.invariant.1 in
     let fits = written g (goal.at.returns-in-Err g c).At-loop-b in
-    let one = rw from at (stepped_rest l.list l.hits fits Skip t w _ _ _ true c.step.new.list c.in-Err.ensures.0) in
-    let same : c.after.result.0.steps ≡ l.steps = omega (arith, c.after.ensures.1, c.in-Err.ensures.1) in
-    rw (c.after.ensures.0, same, c.after.ensures.2)
-    (advanced_step Skip t w a.s.0 a.budget a.list.now 0 l.at l.steps l.hits l.list (omega arith) l.invariant.2 _ _ true _
-    (mark_due g (goal.at.returns-in-Err g c).In-loop-b) c.if-steps-budget.true one)
+    let more = advanced_rest l.list l.hits fits Skip t w _ _ _ true c.busy.new.list _ _ c.in-Err.ensures.advanced in
+    rw (c.after.ensures.0, c.after.ensures.1, c.after.ensures.2)
+    (advanced_join Skip t w a.s.0 a.budget a.list.now 0 l.at l.steps l.hits l.list _ _ _ true _ (omega arith) l.invariant.2 more)
 
 pub loop-b-preserved : goal.loop-b-preserved
 loop-b-preserved g c =
@@ -70,15 +74,29 @@ loop-b-preserved g c =
     let s = (goal.at.loop-b-preserved g c).Start in
     let t = text g s in
     let w = pattern g s in
+    let fits = written g (goal.at.loop-b-preserved g c).At-loop-b in
+    let more = advanced_rest l.list l.hits fits Skip t w _ _ _ false c.busy.new.list _ _ c.in-Ok.ensures.advanced in (
+      c.in-Ok.ensures.onward.0,
+      c.last_byte-b-in-Ok.ensures,
+      advanced_join Skip t w a.s.0 a.budget a.list.now 0 l.at l.steps l.hits l.list _ _ _ false _ (omega arith) l.invariant.2 more,
+    )
+
+pub loop-b-preserved-then-quiet : goal.loop-b-preserved-then-quiet
+loop-b-preserved-then-quiet g c =
+    let a = c.args in
+    let l = c.loop-b in
+    let s = (goal.at.loop-b-preserved-then-quiet g c).Start in
+    let t = text g s in
+    let w = pattern g s in
     let top = c.place_at-at.ensures in
     let from = mark_from t w l.at l.b.0 (long g s) l.invariant.0 l.invariant.1 in
-    let fits = written g (goal.at.loop-b-preserved g c).At-loop-b in
-    let one = rw from at (stepped_rest l.list l.hits fits Skip t w _ _ _ false c.step.new.list c.in-Ok.ensures.0) in (
+    let fits = written g (goal.at.loop-b-preserved-then-quiet g c).At-loop-b in
+    let none = rw from at (c.quiet.ensures c.if-quiet.true) in (
       top_odd l.b.0 _ top,
       next_byte l.b.0 a.by.now.search.now.query.pattern.m _ _ _ (long g s) c.indices.ensures c.byte-stride.ensures top,
       rw top
-          (turn_whole t w a.s.0 a.budget a.list.now 0 l.at l.steps l.hits l.list (omega arith) l.invariant.2 c.if-steps-budget.true (long g s) l.b.0 l.invariant.1
-          (due g (goal.at.loop-b-preserved g c).In-loop-b) _ _ _ one),
+          (turn_quiet t w a.s.0 a.budget a.list.now 0 l.at l.steps l.hits l.list (omega arith) l.invariant.2 c.if-steps-budget.true (long g s) l.b.0 l.invariant.1
+          (due g (goal.at.loop-b-preserved-then-quiet g c).In-loop-b) fits none),
     )
 
 pub loop-b-init : goal.loop-b-init
