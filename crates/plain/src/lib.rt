@@ -68,7 +68,13 @@ fn first_row(cells: &[u64], bytes: u64, from: usize) -> Option<usize>
     requires { 16 ≤ length cells.now }
     ensures { MatchOption result (NonePass (first_fits bytes cells.now) from 8) (λ r. (r < 8) × IsFirst (first_fits bytes cells.now) from r) }
 {
-    (from..8).find(|i| bytes & cells[8 + *i] == cells[*i])
+    // A loop and no `find`, with which places that mostly agree took half as long again.
+    for i in from..8 {
+        if bytes & cells[8 + i] == cells[i] {
+            return Some(i);
+        }
+    }
+    None
 }
 
 // The first place from byte `from` on that the first cell of its row does not rule out. Each load serves the eight places of a
