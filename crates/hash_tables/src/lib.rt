@@ -20,12 +20,15 @@ use matcher::query::Pattern;
 use matcher::wild;
 use rules::Method;
 
-// The first cells once more after themselves.
+// The first cells once more after themselves. A loop, since the library's copy of a slice is compiled to a call of `memcpy`, which
+// programs in C that use the archive would have to bring along.
 fn double(cells: &mut [u64], size: usize)
     requires { (size ≤ 128) × (256 ≤ length cells.old) }
     ensures { cells.new ≡ paste cells.old size cells.old size }
 {
-    cells.copy_within(..size, size);
+    for i in 0..size {
+        cells[size + i] = cells[i];
+    }
 }
 
 // The moves from m − 7 up, at which the pattern's first bits are the value's last. Before turn k the first 2^(k − 1) cells
