@@ -60,7 +60,8 @@ pub(crate) fn read_here(file: &[u8]) -> Result<(u32, &[u8]), ReadRefusal>
     requires { 0 < length file.now }
     ensures { reading_in result ≡ read_number file.now }
 {
-    let (&b, rest) = file.split_first().unwrap();
+    let b = file[0];
+    let rest = &file[1..];
     if b < 128 {
         return Ok((b as u32, rest));
     }

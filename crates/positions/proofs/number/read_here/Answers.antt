@@ -1,22 +1,26 @@
 -- `positions::number::read_here` meets its contract: a single byte is settled here, `read_on` has the rest.
 -- Assumes nothing.
-use mathlib.Core.Path.{sym, ap, ◌∙◌}
-use native.Mathlib.Omega.{arith}
+use Rattle.std.proofs.Common.{ℕ, ◌≡◌, ◌-◌, ◌≤◌, ◌<◌, List, length, take, drop, get_or, sym, ◌∙◌, arith}
+use Rattle.std.proofs.lemmas.List.{length-drop, take_all, at_drop_more}
 use Rattle.positions.specs.Decode.{read_number}
 use Rattle.positions.proofs.ReadGroups.{number_one, number_more}
 use Rattle.positions.proofs.number.read_here.Goals as goal
 
+-- the bytes after the first one
+rest_is : (file : List ℕ) → take (length file - 1) (drop 1 file) ≡ drop 1 file
+rest_is file =
+    let size : length (drop 1 file) ≤ length file - 1 = omega (arith, length-drop 1 file) in
+    take_all (length file - 1) (drop 1 file) size
+
 pub returns-then-b-lt128 : goal.returns-then-b-lt128
 returns-then-b-lt128 c =
-    let split = rw c.unwrap.ensures at c.split_first.ensures.cases in
-    sym (ap read_number split.0 ∙ number_one _ _ c.if-b-lt128.true)
+    let file = c.args.file.now in
+    rw (rest_is file) (sym (at_drop_more read_number file 0 0 c.requires ∙ number_one (get_or file 0 0) (drop 1 file) c.if-b-lt128.true))
 
 pub read_on-requires : goal.read_on-requires
-read_on-requires c =
-    let split = rw c.unwrap.ensures at c.split_first.ensures.cases in
-    omega (arith, rw split.0 at (c.type_inv.file 0))
+read_on-requires c = omega (arith, c.type_inv.file 0)
 
 pub returns : goal.returns
 returns c =
-    let split = rw c.unwrap.ensures at c.split_first.ensures.cases in
-    c.read_on.ensures ∙ sym (ap read_number split.0 ∙ number_more _ _ c.if-b-lt128.false)
+    let file = c.args.file.now in
+    rw (rest_is file) at c.read_on.ensures ∙ sym (at_drop_more read_number file 0 0 c.requires ∙ number_more (get_or file 0 0) (drop 1 file) c.if-b-lt128.false)
