@@ -167,7 +167,7 @@ module _ (t : Packed) (ws : PatternSet) (s budget : ℕ) (before : List ℕ) whe
         (rw append-nil front_is)
 
   -- the answer tells what the steps left
-  leaves_run : (a : Answer) (at steps hits : ℕ) (cut : Bool) (list : List ℕ) → Ran t ws s budget before at steps hits cut list
+  pub leaves_run : (a : Answer) (at steps hits : ℕ) (cut : Bool) (list : List ℕ) → Ran t ws s budget before at steps hits cut list
       → Tells a at steps hits cut (set_places t ws) → Leaves t ws s budget before a list
   leaves_run a at steps hits cut list r k =
       record {

@@ -129,7 +129,7 @@ first_run_is word flip care r h g f l few =
         ∙ leading_none v (or_lt 64 (bit_xor word flip) (bit_xor 18446744073709551615 care) (xor_lt 64 word flip h g) (xor_lt 64 18446744073709551615 care (omega arith) f)) j (omega arith) (omega arith)
 
 -- the first of four bits in a row that are not wild, among those with a 1 in `later`
-four_is : (care later r : ℕ) → care < 2 ^ 64 → later < 2 ^ 64
+pub four_is : (care later r : ℕ) → care < 2 ^ 64 → later < 2 ^ 64
     → let two = bit_and care (care * 2 ^ 1 % 2 ^ 64) in
     r ≡ count_leading_zeros 64 (bit_and (bit_and two (two * 2 ^ 2 % 2 ^ 64)) later) → r < 63 → Four care r
 four_is care later r h g e few = record { few = omega arith; solid = λ i l u. bit i l }

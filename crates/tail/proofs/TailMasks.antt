@@ -303,7 +303,7 @@ module _ (k : Masks) (few_bits : k.m ≤ 64) (made : Made k) (x : ℕ) where
           (rw made.past_is (shl_twice_high 18446744073709551615 made.run 1 r (omega arith) (omega arith) ∙ weight_ones 64 (r - (made.run + 1)) (omega arith)))
 
   -- And so does each of four bits that are not wild, spread over b: the window is moved up by as many bits.
-  bit_leaves : (f c j b : ℕ) → Four k.care f → 1 ≤ c → c ≤ 4 → suc j ≡ f + c → b ≡ spread_of k.zeros j
+  pub bit_leaves : (f c j b : ℕ) → Four k.care f → 1 ≤ c → c ≤ 4 → suc j ≡ f + c → b ≡ spread_of k.zeros j
       → Leaves k x (left_by_bit x f c b)
   bit_leaves f c j b four some few at is w count masks r l h =
       rw is
