@@ -10,15 +10,15 @@ use native.Mathlib.Nat.{pow-suc, add-zero, zero-add, lt_of_lt_of_le}
 use native.Mathlib.Numerals.{add-one}
 use lib.Pow.{pow_mono}
 use lib.Dec.{eqb}
-use lib.ListN.{length, get_or, take, drop, length-append, length-map, get_or-map, drop_of_length-le}
+use lib.ListN.{length, get_or, set, take, drop, length-append, length-map, get_or-map, drop_of_length-le}
 use Rattle.std.proofs.Common.{get_or-take}
 use Rattle.std.proofs.lemmas.List.{nil_from_length}
-use lib.Seq.{drop-drop, get_or-drop, take-append_seam, drop-append_seam, take_all}
+use lib.Seq.{drop-drop, get_or-drop, take-append_seam, drop-append_seam, take_all, take-suc-set, drop-set-lt}
 use borrow.Author.Tests.{eqb-true, eqb-false}
 use Rattle.bits.specs.Packed.{weight, bit_at, bytes_for}
 use Rattle.bits.proofs.Weight.{weight_shr}
 use Rattle.lines.specs.Input.{bit_of, Bits}
-use Rattle.lines.specs.Packing.{bits_from, bytes_from, packed}
+use Rattle.lines.specs.Packing.{bits_from, bytes_from, packed, Packs}
 
 -- ---- several bits as a number
 
@@ -134,6 +134,38 @@ bytes_more bits b = rw (add-one b) (sym (rw (zero-add b) at (bytes_snoc bits 0 b
 pub bytes_all : (chars : List ℕ) (b : ℕ) → b ≡ bytes_for (length chars) → bytes_from (map bit_of chars) 0 b ≡ packed (map bit_of chars)
 unfolding packed
 bytes_all chars b e = rw (e, length-map chars bit_of)
+
+-- ---- the bytes in a lent buffer
+
+-- the first b bytes are packed, and the others are as they were
+pub record Filled (chars before : List ℕ) (b : ℕ) (out : List ℕ) : Type 0 where
+  pub front : take b out ≡ bytes_from (map bit_of chars) 0 b
+  pub rest : drop b out ≡ drop b before
+
+pub filled_none : (chars before : List ℕ) → Filled chars before 0 before
+unfolding bytes_from
+filled_none chars before = record { front = refl; rest = refl }
+
+pub filled_more : (chars before out : List ℕ) (b x : ℕ) → b < length out → x ≡ bits_from (map bit_of (drop (b * 8) chars)) 0 8 → Filled chars before b out → Filled chars before (b + 1) (set out b x)
+filled_more chars before out b x h e f =
+    record {
+      front = rw (add-one b, take-suc-set out b x h, f.front, e, at) (rw add-one at (bytes_more (map bit_of chars) b));
+      rest =
+          drop-set-lt (b + 1) out b x (omega arith)
+          ∙ sym (drop-drop 1 b out)
+          ∙ ap (drop 1) f.rest
+          ∙ drop-drop 1 b before;
+    }
+  where
+    at : bits_from (map bit_of (drop (b * 8) chars)) 0 8 ≡ bits_from (map bit_of chars) (b * 8) 8
+    at =
+        same_bits (map bit_of (drop (b * 8) chars)) (map bit_of chars) 0 (b * 8) 8
+        (λ j l. rw (zero-add j, get_or-map bit_of (drop (b * 8) chars) j 0, get_or-map bit_of chars (b * 8 + j) 0) (ap bit_of (rw get_or-drop)))
+
+pub filled_packs : (chars before out : List ℕ) (n : ℕ) → n ≡ bytes_for (length chars) → n ≤ length out → Filled chars before n out → Packs chars before n out
+filled_packs chars before out n e h f =
+    let whole : n ≡ length (take n out) = rw f.front (sym (bytes_length (map bit_of chars) 0 n)) in
+    record { is = f.front ∙ bytes_all chars n e; counts = (h, whole); rest = f.rest }
 
 -- ---- what a reader of the packed bytes finds
 

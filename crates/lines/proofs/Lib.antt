@@ -4,4 +4,5 @@ pub mod Input
 pub mod Bits
 pub mod Decimal
 pub mod Appending
+pub mod Putting
 pub mod Examples

@@ -1,5 +1,5 @@
--- What the functions promise each other: what they found in the input.
-use Rattle.std.specs.Prelude.{ℕ, ◌+◌, ◌≤◌, ◌≡◌, List, map, length, None, Some}
+-- What the functions promise each other: what they found in the input, and what they stored.
+use Rattle.std.specs.Prelude.{ℕ, ◌+◌, ◌≤◌, ◌≡◌, List, ◌++◌, map, length, take, None, Some}
 use Rattle.std.specs.declared.option.Option.{Option}
 use Rattle.lines.specs.Input.{bit_of, Parsed, bad, lines}
 use Rattle.lines.specs.declared.parse.Lines.{Lines}
@@ -13,3 +13,8 @@ input_in None = bad
 abbrev pub Sized : List ℕ → Option Lines → Type 0
 Sized s (Some l) = (1 ≤ length l.pattern.now) × ((length l.pattern.now ≤ 2048) × ((length l.text.now ≤ 4096) × (length l.pattern.now + length l.text.now + 2 ≡ length s)))
 Sized s None = Unit
+
+-- Bytes stored into a buffer from an index on: the index after them, and the buffer up to there.
+pub record Puts (before : List ℕ) (at : ℕ) (bytes : List ℕ) (r : ℕ) (after : List ℕ) : Type 0 where
+  pub next : r ≡ at + length bytes
+  pub front : take r after ≡ take at before ++ bytes

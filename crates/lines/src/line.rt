@@ -16,7 +16,7 @@ pub fn put<const N: usize>(page: &mut ArrayVec<u8, N>, bytes: &[u8])
     page.try_extend_from_slice(bytes).unwrap();
 }
 
-fn name_of(method: Method) -> &'static [u8]
+pub(crate) fn name_of(method: Method) -> &'static [u8]
     ensures { result.now ≡ name_of method }
 {
     match method {

@@ -5,9 +5,10 @@ ghost use Rattle.lines.specs.Input.{bit_of};
 ghost use Rattle.lines.specs.Packing.{bits_from, packed};
 
 use arrayvec::ArrayVec;
+use bits::ByteNo;
 
 // Eight characters as a byte; past the last one the bits are 0.
-fn byte(chars: &[u8]) -> u8
+pub(crate) fn byte(chars: &[u8]) -> u8
     ensures { result ≡ bits_from (map bit_of chars.now) 0 8 }
 {
     let mut x = 0;
@@ -22,8 +23,9 @@ pub fn pack<const N: usize>(chars: &[u8]) -> ArrayVec<u8, N>
     requires { bytes_for (length chars.now) ≤ N }
     ensures { result.items ≡ packed (map bit_of chars.now) }
 {
+    let per_byte = ByteNo(1).place().0 as usize; // the bits before byte 1
     let mut bytes = ArrayVec::new();
-    for eight in chars.chunks(8) {
+    for eight in chars.chunks(per_byte) {
         bytes.push(byte(eight));
     }
     bytes

@@ -11,7 +11,7 @@ unfolding bytes_from
 loop-eight-init g c =
     let none = c.new-bytes.ensures in
     rw (c.into_iter-eight-iterator.ensures.into_iter_gives, none)
-    (record { size = c.chunks-eight-items.ensures.size; left = c.chunks-eight-items.ensures.rest; packed = refl; few = omega arith })
+    (record { size = c.chunks-eight-items.ensures.size ∙ c.place-per_byte.ensures; left = c.chunks-eight-items.ensures.rest; packed = refl; few = omega arith })
 
 pub loop-eight-preserved : goal.loop-eight-preserved
 loop-eight-preserved g c =
