@@ -11,9 +11,13 @@ A method `x.f()` is followed in every type that has an `f`, unless the function 
 as parameters is followed for those that the call names, as in `by::<Plain>(..)`, or for those of what it hands over, and then
 `M::f(..)` in it is the type's own `f`. Where neither tells the type, `M::f` cannot be found.
 
+What these functions call of the kit's own library is followed there too, in the sources that the kit brings (`kit.py`), with
+what a `for` and a `?` call by no name. It may run no array either, and what is not found there, or gives a value of another
+type than the few that the reader knows, is a fault.
+
 It prints the functions that it followed. Then it tries itself on a copy of the sources: with an array put into each of these
-functions in turn, and other samples into a deep one. The last line is the number of checks; where something is found it is
-printed, and the exit status is 1.
+functions in turn, and other samples into a deep one, and on a copy of the library's sources in memory likewise. The last line
+is the number of checks; where something is found it is printed, and the exit status is 1.
 
 usage: arrays.py [CRATES]     with CRATES, a folder of crates beside its crates.txt, only the first part is done"""
 
@@ -23,8 +27,9 @@ import subprocess
 import sys
 import tempfile
 
-from program import CLOSING, KEYWORDS, Constant, Function, Made, Program, Trait, Type, Variant
-from program import begins_path, between, is_name, past, past_angle, path_at, until
+import kit
+from program import CLOSING, Constant, Function, Made, Program, Trait, Type, Variant
+from program import begins_path, between, indexes, is_name, past, past_angle, path_at, patterns, until
 from sources import CRATES, Unread
 
 STARTS = ["search::Mark::search", "capi::scan::mitongory_search"]
@@ -37,8 +42,8 @@ METHOD, OURS = "rules::Method", "Plain"
 # It tells the method that a number names, and 0 alone is plain: it may name other methods, and must be asked so.
 METHOD_OF, ASKED = "capi::scan::method_of", ["(", "method", ")"]
 
-# What the language itself has: types, functions of numbers, and what a slice and its items are asked. None of these takes an
-# array or gives one.
+# What the language itself has: types, functions of numbers, and what a slice and its items are asked. What a followed function
+# calls of these is followed through the kit's own library.
 NUMBERS = ["u8", "u16", "u32", "u64", "usize", "i8", "i16", "i32", "i64", "isize"]
 OWN_TYPES = NUMBERS + ["bool", "f32", "f64", "self"]
 OF_NUMBERS = ["count_ones", "leading_zeros", "trailing_zeros", "from", "MAX"]
@@ -145,38 +150,6 @@ def zip_same(takes, values):
     return list(zip(takes, values)) if len(takes) == len(values) else []
 
 
-def begins_closure(tokens, i):
-    """Whether the `|` at i may stand where a value begins."""
-    before = tokens[i - 1]
-    return before in KEYWORDS or before.kind == "mark" and before not in (")", "]")
-
-
-def patterns(tokens):
-    """All patterns of a body, each with the tokens of its type, if they are written, and of the value that it is for. More may
-    be taken for a pattern, and then fewer types are known."""
-    for i, t in enumerate(tokens):
-        if t == "let":
-            colon = until(tokens, i + 1, ":=;")
-            equals = until(tokens, colon, "=;")
-            end = until(tokens, equals, ["{"] if tokens[i - 1] in ("if", "while") else ["else", ";"])
-            yield tokens[i + 1 : colon], tokens[colon + 1 : equals], tokens[equals + 1 : end]
-        elif t == "for" and tokens[i + 1] != "<":
-            yield tokens[i + 1 : until(tokens, i, ["in"])], [], []
-        elif t == "match":
-            start = until(tokens, i + 1, "{")
-            at, end = start + 1, past(tokens, start) - 1
-            while at < end:
-                arrow = until(tokens[:end], at, ["=>"])
-                after = past(tokens, arrow + 1) if tokens[arrow + 1] == "{" else until(tokens[:end], arrow + 1, [",", "=>"])
-                if arrow == end or tokens[after] == "=>":
-                    yield tokens[at:end], [], []
-                    break
-                yield tokens[at : until(tokens[:arrow], at, ["if"])], [], tokens[i + 1 : start]
-                at = after + 1 if tokens[after] == "," else after
-        elif t == "|" and begins_closure(tokens, i):
-            yield tokens[i + 1 : until(tokens, i + 1, "|")], [], []
-
-
 # ---- one function
 
 
@@ -188,14 +161,18 @@ class Reader:
         self.program, self.function = program, function
         self.module, self.of, self.given = function.module, of, given
         self.item = of.item if of else None
-        self.calls, self.faults = [], []
+        self.calls, self.library_calls, self.faults = [], [], []
         self.bound = {"self": {self.of}}
+        self.kinds = kit.Kinds(function.takes(), function.body, [*function.params, "Self"], self.field)
 
     def fault(self, token, why):
         self.faults.append("%s:%d: %s in %s" % (self.module.file, token.line, why, self.function.full))
 
     def read(self):
         signature, body = self.function.signature, self.function.body
+        for t in signature:
+            if t in kit.OTHER_TYPES:
+                self.fault(t, "a %s, whose functions are not followed," % t)
         held = array_in(self.program, self.module, signature, self.item, self.given)
         if held or self.item and "self" in signature and holds_array(self.program, self.item):
             self.fault(held or signature[0], "an array taken or given")
@@ -283,12 +260,23 @@ class Reader:
         t, before = tokens[i], tokens[i - 1] if i else None
         if t.kind == "string":
             self.fault(t, "an array: %s" % t)
-        elif t == "[" and not self.indexes(tokens, i):
+        elif t == "[" and not indexes(tokens, i):
             self.fault(t, "an array: %s" % "".join(tokens[i : past(tokens, i)]))
         elif t == "let":
             return self.let(tokens, i)
         elif t in NOT_FOLLOWED:
             self.fault(t, "cannot read %s" % t)
+        elif t in kit.OTHER_TYPES:
+            self.fault(t, "a %s, whose functions are not followed," % t)
+        elif t == "for" and tokens[i + 1] != "<":
+            start = until(tokens, i, ["in"]) + 1
+            self.library_calls += self.of_kinds(tokens[start : until(tokens, start, "{")], kit.BY_FOR)
+        elif t in kit.RANGES and kit.other_range(tokens, i):
+            self.fault(t, "a range of another kind, whose functions are not followed,")
+        elif t == "?":
+            signature = self.function.signature
+            gives = self.kinds.of_type(signature[until(signature, 0, ["->"]) + 1 :])
+            self.library_calls += [(gives and tuple(sorted(gives)), name, count) for name, count in kit.BY_QUESTION]
         elif is_name(t) and before == ".":
             return self.method(tokens, i)
         elif begins_path(t) and before == "::":
@@ -296,11 +284,6 @@ class Reader:
         elif begins_path(t):
             return self.path(tokens, i)
         return i + 1
-
-    def indexes(self, tokens, i):
-        """Whether the bracket at i follows a value."""
-        before = tokens[i - 1] if i else tokens[i]
-        return is_name(before) or before in (")", "]", "?") or before.kind == "number" and tokens[i - 2] == "."
 
     def let(self, tokens, i):
         """The pattern of a `let` is read like other code, and after it a type that it may have."""
@@ -326,9 +309,24 @@ class Reader:
         for function, item in found:
             handed = zip_same(function.takes()[1:], between(tokens[end : past(tokens, end)], values=True))
             self.call(function, of or Made(item, (None,) * len(item.params)), named_types, handed)
-        if not found and name not in OF_VALUES:
+        if name in OF_VALUES and not (of and found):
+            self.library_calls += self.of_kinds(kit.receiver(tokens, i - 1), [(str(name), kit.arguments(tokens, end))])
+        elif not found:
             self.fault(name, "cannot find .%s()" % name)
         return end
+
+    def of_kinds(self, value, calls):
+        """These calls, each by a name and how many arguments it has, on a value."""
+        kinds = self.kinds.of_value(value)
+        return [(kinds and tuple(sorted(kinds)), name, count) for name, count in calls]
+
+    def field(self, name):
+        """The kinds of a field of `self`, or None."""
+        for part in between(self.item.parts) if self.item and self.item.parts[:1] == ["{"] else []:
+            colon = until(part, 0, ":")
+            if part[colon - 1] == name:
+                return kit.kinds_of_type(part[colon + 1 :], self.item.params)
+        return None
 
     def angles(self, tokens, i):
         """Where to go on after the types that are named at i, as `::<T>`, and these types, or None."""
@@ -392,6 +390,8 @@ class Reader:
     def unknown(self, path, follows):
         """Whether a name that no item has must be one: a path, or a call. Other names are locals, fields and numbers' types."""
         if len(path) == 2 and path[0] in NUMBERS:
+            if path[1] in OF_NUMBERS:
+                self.library_calls.append(((str(path[0]),), str(path[1]), None))
             return path[1] not in OF_NUMBERS
         return len(path) > 1 or follows == "("
 
@@ -436,10 +436,11 @@ def named(program, full):
     return item if isinstance(item, Function) else None
 
 
-def followed(crates):
-    """The functions that are reached, each with how many calls deep it is, and what they may not have."""
+def followed(crates, library):
+    """The functions that are reached, each with how many calls deep it is, those of the kit's library, and what none of them
+    may have."""
     program = Program(crates, TOPS)
-    depths, seen, todo, faults = {}, set(), [], []
+    depths, seen, todo, faults, library_calls = {}, set(), [], [], set()
 
     def reach(call, depth):
         depths.setdefault(call[0], depth)
@@ -457,6 +458,7 @@ def followed(crates):
         function, of, given = todo.pop(0)
         reader = Reader(program, function, of, dict(given)).read()
         faults += reader.faults
+        library_calls.update(reader.library_calls)
         for call in reader.calls:
             reach(call, depths[function] + 1)
     # What the language may call with no name: no followed function has a value of such a type where the module is its crate's
@@ -464,15 +466,16 @@ def followed(crates):
     for module, line, trait in program.foreign:
         if not module.hidden or any(f.module.path[0] == module.path[0] for f in depths):
             faults.append("%s:%d: cannot tell what calls %s" % (module.file, line, trait))
-    return depths, list(dict.fromkeys(faults))
+    read, more = kit.followed(library, frozenset(library_calls))
+    return depths, read, list(dict.fromkeys(faults + more))
 
 
-def judged(crates):
+def judged(crates, library):
     """The same, and a source that cannot be read is a fault."""
     try:
-        return followed(crates)
+        return followed(crates, library)
     except Unread as why:
-        return {}, [str(why)]
+        return {}, {}, [str(why)]
 
 
 # ---- the check is tried on a copy of the sources
@@ -569,6 +572,21 @@ WRONG = [
     ("let planted =\n        ghost.map_or(0, |x| { [0u8; 16][0] });", "ghost that is no clause"),
     ("let ensures = { [0u8; 16] };", "ensures that is no clause"),
     ("/* see http://x */ let planted = [0u8; 16];", "a comment in /* */"),
+    # what the library has in ways that are not followed
+    ("let planted = f as i64;", "a i64, whose functions are not followed,"),
+    ("let planted = put(f);\n---\nfn put(x: char) {}", "a char, whose functions are not followed,"),
+    ("for x in f {}", "a Once, whose functions are not followed,"),
+    ("let planted = p.min(p);", "a Ordering, whose functions are not followed,"),
+    ("let planted = f.iter();", "a OptionIter, whose functions are not followed,"),
+    ("let planted = f?;", "cannot find u64::branch in the kit's library"),
+    ("let planted = (f..).find(|i| *i == g);", "a range of another kind, whose functions are not followed,"),
+    ("let planted = (..f).is_empty();", "a range of another kind, whose functions are not followed,"),
+    ("let planted = put(g, ..f);\n---\nfn put(x: u8, y: u8) {}", "a range of another kind, whose functions are not followed,"),
+    ("for x in 0.. {}", "a range of another kind, whose functions are not followed,"),
+    ("for x in 0..=f {}", "a range of another kind, whose functions are not followed,"),
+    ("let planted = put::<u8>(f).min(g);\n---\nfn put<T>(x: T) {}", "a Ordering, whose functions are not followed,"),
+    ("let planted = if f + 1 == g { f } else { g };\n    planted.min(g);", "a Ordering, whose functions are not followed,"),
+    ("let h = f + 1;\n    let h = g;\n    h.min(f);", "a Ordering, whose functions are not followed,"),
 ]
 
 # And none of these.
@@ -580,7 +598,9 @@ RIGHT = [
     "let planted = ByteNo(1).place().byte();",
     "let planted = f.get(g).map_or(0, |x| u64::from(*x));",
     "let Some(planted) = (f..8).find(|i| g & 1 == *i) else {\n        return u64::MAX;\n    };",
-    "for x in 0..f.min(8) {\n        let planted = x?[1];\n    }",
+    "for x in 0..(f + 1).min(8) {\n        let planted = put(x);\n    }\n---\nfn put(x: u8) -> Result<u8, u8> {\n    let y = x?[1];\n}",
+    "let planted = (f + 1).min(8).saturating_add(g);\n    let h = 2 * f;\n    (h as u8).min(1);\n    h.min(2);",
+    "let planted = Held { a: 1, ..f };\n    let Held { a, .. } = planted;\n---\nstruct Held {\n    a: u8,\n    b: u8,\n}",
     "let planted = g;\n---\nfn not_called() -> [u8; 4] {\n    [0u8; 4]\n}",
     "let planted = f;\n---\nstruct Held {\n    a: u8,\n    pub ghost four: { [0u8; 4] } by { [0u8; 4] },\n}",
     "let planted = f;\n---\nimpl Place {\n    ghost four = { [0u8; 4] };\n}",
@@ -747,12 +767,12 @@ def planted(crates, function, text):
     return path, old, old[:at] + " " + inside + old[at:] + after + "\n"
 
 
-def tried(crates, change):
+def tried(crates, library, change):
     """What is found in the copy with one file changed, which is then put back."""
     path, old, new = change
     with open(path, "w", encoding="utf-8") as source:
         source.write(new)
-    _, faults = judged(crates)
+    faults = judged(crates, library)[2]
     with open(path, "w", encoding="utf-8") as source:
         source.write(old)
     return faults
@@ -806,41 +826,132 @@ def samples(copy, functions, deep):
         yield (path, old, new), words, False
 
 
-def tries(crates, depths):
+# ---- and on a copy of the library's sources in memory
+
+LIBRARY_DEEP = "Range<A>::next"
+
+# Put at the beginning of that function, each of these must be found, by these words. The part after a line of three dashes goes
+# to the end of its file.
+LIBRARY_WRONG = [
+    ("let planted: [A; 1] = f;", "an array: [A;1] in Range<A>::next"),
+    ("let [a, b] = f;", "an array: [a,b] in Range<A>::next"),
+    ("let planted = *b\"four\";", "an array: b\"four\" in Range<A>::next"),
+    ("let planted = made(self);\n---\nfn made(x: A) {\n    [x; 4];\n}\n", "an array: [x;4] in core::iter::ranges::made"),
+    ("let planted = made(self);\n---\nfn made(x: A) -> [u8; 4] {\n    x\n}\n", "an array: [u8;4] in core::iter::ranges::made"),
+    ("let planted = made(self);\n---\nfn made(x: A) -> Four {\n    x\n}\ntype Four = [u8; 4];\n", "a Four, whose functions"),
+    ("let planted = made(self);\n---\nfn made(x: A) -> Four {\n    x\n}\nstruct Four([u8; 4]);\n", "a Four, whose functions"),
+    ("let planted = made(self);\n---\nfn made(x: A) -> impl Copy {\n    x\n}\n", "cannot read impl in core::iter::ranges::made"),
+    ("let planted = FOUR;\n---\nconst FOUR: [u8; 4] = [0; 4];\n", "an array: [u8;4] in core::iter::ranges::FOUR"),
+    ("let planted = self.four();\n---\nimpl<A> Range<A> {\n    fn four(&self) {\n        [0u8; 4];\n    }\n}\n", "in Range<A>::four"),
+    ("let planted = self.start.four();\n---\nimpl u8 {\n    fn four(self) {\n        [0u8; 4];\n    }\n}\n", "in u8::four"),
+    ("let planted = nowhere(self);", "cannot find nowhere in the kit's library"),
+    ("let planted = self.nowhere();", "cannot find Range::nowhere in the kit's library"),
+    ("let planted = self.start.nowhere();", "cannot find .nowhere() in the kit's library"),
+    ("let planted = u64::nowhere(self);", "cannot find u64::nowhere in the kit's library"),
+    ("let planted = crate::array::from_fn(f);", "in core::array::from_fn"),
+    ("let planted = u64::from_be_bytes(f);", "in the kit's library, which Range<A>::next calls"),
+    ("let planted = 0 as i64;", "a i64, whose functions are not followed,"),
+    ("let planted = (f..).len();", "a range of another kind, whose functions are not followed, in Range<A>::next"),
+    ("let planted = Once { value: f };", "a Once, whose functions are not followed,"),
+    ("let planted = <[A]>::len(f);", "in Range<A>::next"),
+    ("unreachable!();", "cannot read unreachable! in Range<A>::next"),
+    ("for planted in self {}", "cannot read for in Range<A>::next"),
+    ("let planted = self.start?;", "cannot read ? in Range<A>::next"),
+    ("let ghost = [0u8; 16];", "ghost that is no clause"),
+    ("f;\n---\nmacro four() {}\n", "no item begins with macro"),
+]
+
+# And none of these.
+LIBRARY_RIGHT = [
+    "// let planted = [0u8; 16];",
+    "let planted = made(self);\n---\nfn made(x: A) {\n    x[0][1];\n}\n",
+    "let planted = f;\n---\nfn not_called() {\n    [0u8; 4];\n}\n",
+    "let planted = f;\n---\nimpl i64 {\n    fn below(self, x: i64) {\n        [0u8; 4];\n    }\n}\n",
+    "let planted = f;\n---\nstruct Four {\n    at: [u8; 4],\n}\n"
+    "impl Iterator for Four {\n    fn next(&mut self) {\n        [0u8; 4];\n    }\n}\n",
+]
+
+# Elsewhere: a function that is followed, what stands once in its file with what is put in its place, and what must be found.
+LIBRARY_ELSEWHERE = [
+    ("[T]::iter", "struct Iter<'a, T> {", "struct Iter<'a, T> {\n    at: [u8; 4],", "an array: [u8;4] in core::iter::slices::Iter"),
+    ("u32::div_ceil", "fn div_ceil(", "fn div_up(", "cannot find u32::div_ceil in the kit's library, which the repository calls"),
+    ("u64::MAX", "const MAX: u64", "const LARGEST: u64", "cannot find u64::MAX in the kit's library, which"),
+]
+
+
+def library_planted(library, held, text):
+    """The library with the text at the beginning of one of its functions, or before the value of a constant."""
+    old = library.texts[held.file]
+    inside, _, after = text.partition("\n---\n")
+    at = held.body[0].at + (held.kind == "fn")
+    return library.changed(held.file, old[:at] + " " + inside + " " + old[at:] + after)
+
+
+def library_samples(library, read):
+    """The changed copies, what must then be found, if anything, and whether it is all that may be found."""
+    for held in read:
+        text = PLANT if held.kind == "fn" else "[0u8; 16][0] +"
+        words = "%s:%d: an array: [0u8;16] in %s" % (held.file, held.body[0].line, held.full)
+        yield library_planted(library, held, text), words, True
+    deep = next(held for held in read if held.full == LIBRARY_DEEP)
+    for text, words in LIBRARY_WRONG:
+        yield library_planted(library, deep, text), words, False
+    for text in LIBRARY_RIGHT:
+        yield library_planted(library, deep, text), None, False
+    for full, text, other, words in LIBRARY_ELSEWHERE:
+        file = next(held.file for held in read if held.full == full)
+        if library.texts[file].count(text) != 1:
+            raise Unread("%s has %r %d times" % (file, text, library.texts[file].count(text)))
+        yield library.changed(file, library.texts[file].replace(text, other)), words, False
+
+
+def tries(crates, library, depths, read):
     """How many tries were made, and those that went wrong."""
     deep = next(f for f in depths if f.full == DEEP)
     with tempfile.TemporaryDirectory() as folder:
         copy = copied(crates, folder)
         wrong = [] if run_planted(copy, deep, depths[deep]) else ["it does not fail there"]
-        count = 1
-        for change, words, alone in samples(copy, depths, deep):
-            faults = tried(copy, change)
-            count += 1
+        tried_on = [(tried(copy, library, change), *wanted) for change, *wanted in samples(copy, depths, deep)]
+        tried_on += [(judged(copy, changed)[2], *wanted) for changed, *wanted in library_samples(library, read)]
+        for faults, words, alone in tried_on:
             good = faults == [words] if alone else any(words in f for f in faults) if words else not faults
             if not good:
                 wrong.append("%s to be found, not %s" % (words or "nothing was", faults))
-        wrong += judged(copy)[1]
-    return count, wrong
+        wrong += judged(copy, library)[2]
+    return 1 + len(tried_on), wrong
+
+
+def listed(held):
+    return "%s (%s:%d)" % (held.full, held.file if isinstance(held, kit.Held) else held.module.file, held.line)
 
 
 def main():
     crates = sys.argv[1] if len(sys.argv) > 1 else CRATES
-    depths, faults = judged(crates)
-    print("\n".join("%s (%s:%d)" % (f.full, f.module.file, f.line) for f in depths))
+    try:
+        library = kit.library(kit.folder())
+    except Unread as why:
+        print("arrays.py: the kit's library cannot be read: %s" % why)
+        sys.exit(1)
+    depths, read, faults = judged(crates, library)
+    print("\n".join(map(listed, depths)))
+    print("of the kit's library:")
+    print("\n".join(map(listed, read)))
     names = [f.full for f in depths]
     faults += ["%s is not followed" % name for name in [METHOD_OF, DEEP] if name not in names and not faults]
+    faults += ["%s is not followed" % LIBRARY_DEEP for _ in [1] if LIBRARY_DEEP not in [f.full for f in read] and not faults]
     if faults:
         print("arrays.py: a plain search call has these faults:")
         print("\n".join(faults))
         sys.exit(1)
     if len(sys.argv) > 1:
         return
-    count, wrong = tries(crates, depths)
+    count, wrong = tries(crates, library, depths, read)
     if wrong:
         print("arrays.py: the check itself is wrong:")
         print("\n".join(wrong))
         sys.exit(1)
-    print("arrays.py: %d functions, %d checks" % (len(depths), len(depths) + count))
+    made = len(depths) + len(read) + count
+    print("arrays.py: %d functions, %d of the kit's library, %d checks" % (len(depths), len(read), made))
 
 
 main()

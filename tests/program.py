@@ -117,9 +117,47 @@ def between(tokens, values=False):
     return [part for part in parts if part and part[0].kind != "lifetime"]
 
 
+def indexes(tokens, i):
+    """Whether the bracket at i follows a value."""
+    before = tokens[i - 1] if i else tokens[i]
+    return is_name(before) or before in (")", "]", "?") or before.kind == "number" and tokens[i - 2] == "."
+
+
 def names_in(angles):
     """The names of the parameters that `<..>` declares, but for lifetimes."""
     return [part[1] if part[0] == "const" else part[0] for part in between(angles)]
+
+
+def begins_closure(tokens, i):
+    """Whether the `|` at i may stand where a value begins."""
+    before = tokens[i - 1]
+    return before in KEYWORDS or before.kind == "mark" and before not in (")", "]")
+
+
+def patterns(tokens):
+    """All patterns of a body, each with the tokens of its type, if they are written, and of the value that it is for. More may
+    be taken for a pattern, and then fewer types are known."""
+    for i, t in enumerate(tokens):
+        if t == "let":
+            colon = until(tokens, i + 1, ":=;")
+            equals = until(tokens, colon, "=;")
+            end = until(tokens, equals, ["{"] if tokens[i - 1] in ("if", "while") else ["else", ";"])
+            yield tokens[i + 1 : colon], tokens[colon + 1 : equals], tokens[equals + 1 : end]
+        elif t == "for" and tokens[i + 1] != "<":
+            yield tokens[i + 1 : until(tokens, i, ["in"])], [], []
+        elif t == "match":
+            start = until(tokens, i + 1, "{")
+            at, end = start + 1, past(tokens, start) - 1
+            while at < end:
+                arrow = until(tokens[:end], at, ["=>"])
+                after = past(tokens, arrow + 1) if tokens[arrow + 1] == "{" else until(tokens[:end], arrow + 1, [",", "=>"])
+                if arrow == end or tokens[after] == "=>":
+                    yield tokens[at:end], [], []
+                    break
+                yield tokens[at : until(tokens[:arrow], at, ["if"])], [], tokens[i + 1 : start]
+                at = after + 1 if tokens[after] == "," else after
+        elif t == "|" and begins_closure(tokens, i):
+            yield tokens[i + 1 : until(tokens, i + 1, "|")], [], []
 
 
 # ---- items

@@ -24,13 +24,13 @@ APART = re.compile(r"//[^\n]*|/\*|b?\"(?:\\.|[^\"\\])*\"|b?'(?:\\.|[^'\\])'", re
 GHOST = re.compile(
     r"""^[ ]*(?:pub(?:\(\w+\))?[ ])?(?:
     ghost\s+use\b[^;]*;
-    |(?:requires|ensures|ghost)\b(?:\s+\w+)?\s*:?\s*\{
+    |(?:(?:requires|ensures)\b\*?|ghost\b)(?:\s+\w+)?\s*:?\s*\{
     |ghost\s+\w+\s*=\s*\{)""",
     re.X | re.M,
 )
 
-# A ghost field may have a proof after its fact.
-PROOF = re.compile(r"\s*\bby\s*\{")
+# A ghost field may have a proof after its fact, and a ghost member of a trait what it is where an `impl` does not say it.
+PROOF = re.compile(r"\s*(?:\bby|=)\s*\{")
 
 
 def clause_ends(text, start):

@@ -1,8 +1,9 @@
 #!/usr/bin/env python3
 """Checks that bit numbers and byte numbers are converted by name: no source below crates/*/src divides or multiplies by 8,
-takes a remainder by 8, or shifts and masks to the same effect, outside the file that defines the conversions. Comments and
-contracts are no code, and may speak of 8. Prints one line with the number of checks, which are the files read and the
-planted samples, or what it found and exits with 1.
+takes a remainder by 8, or shifts and masks to the same effect, outside the file that defines the conversions, be it by an
+operator or by a method: `div_ceil(8)` divides, and `chunks(8)` counts eights. Comments and contracts are no code, and may
+speak of 8. Prints one line with the number of checks, which are the files read and the planted samples, or what it found and
+exits with 1.
 
 usage: units.py [CRATES]"""
 
@@ -27,6 +28,7 @@ EXCEPTIONS = [
         "((y << 1) ^ self.b0) & ((y << 2) ^ self.b1) & ((y << 3) ^ self.b2) & ((y << 4) ^ self.b3)",
         "the window moved up for each of four bits of the pattern, by 1 to 4 bits in turn",
     ),
+    ("matcher/src/query.rt", "for load in 0..last.div_ceil(8) {", "the loads of eight bytes that begin before a byte, by their numbers"),
     ("matcher/src/query.rt", "let here = ByteNo(8 * load);", "the first byte of a load of eight bytes, by the number of the load"),
 ]
 
@@ -41,15 +43,64 @@ def value(digits):
     return int(digits.replace("_", ""), 0 if digits[:2] in ("0x", "0b", "0o") else 10)
 
 
+# Names of the language that are 8, and a number as another type.
+EIGHT = re.compile(r"\b[iu]8::BITS\b|\b(?:\w+::)*size_of::<\s*(?:[iu]64|[iu]size|f64)\s*>\(\s*\)")
+FROM = re.compile(r"\b[iu](?:8|16|32|64|size)::from\(\s*(\d+)\s*\)")
+
+
 def plain_numbers(line, constants):
     """The line with each number, and each constant that names one, as its value alone: no suffix, cast or parentheses."""
-    line = re.sub(r"\b[A-Z][A-Z0-9_]*\b", lambda m: str(constants.get(m.group(), m.group())), line)
+    line = EIGHT.sub("8", line)
+    line = re.sub(r"\b(?:\w+::)*([A-Z][A-Z0-9_]*)\b", lambda m: str(constants.get(m.group(1), m.group())), line)
     line = re.sub(NUMBER, lambda m: str(value(m.group(1))), line)
+    line = FROM.sub(r"\1", line)
     line = re.sub(r"(?<!\w)\(\s*(\d+)%s\s*\)" % CAST, r"\1", line)
     return re.sub(r"\b(\d+)\s+as\s+\w+", r"\1", line)
 
 
 CONVERSION = re.compile(r"[*/%]=?\s*8\b|\b8\s*\*|(?:>>|<<)=?\s*3\b|(?<!&)&=?\s*!?\s*7\b|\b7\s*&(?!&)")
+
+# The same by a method, also where it is called by its path, with the number that it must not have: a product, division or
+# remainder of any kind, what takes a slice or a range eight by eight, a shift by 3, 2 to the power of 3, and a mask of 7.
+METHODS = [
+    (r"(?:\w+_)?(?:mul|div|rem)(?:_\w+)?|\w*chunks(?:_\w+)?|(?:\w+_)?windows|step_by|\w*multiple_of", "8"),
+    (r"(?:\w+_)?(?:shl|shr|pow)(?:_\w+)?", "3"),
+    (r"bitand(?:_assign)?", "7"),
+]
+METHODS = [(re.compile(r"\b(?:%s)\b(?=\s*(?:::\s*<|\())" % names), number) for names, number in METHODS]
+
+# These take the number from the type of what they give where the call does not name it, so it cannot be told.
+UNNAMED = re.compile(r"\b(?:as_r?chunks(?:_\w+)?|array_(?:chunks|windows))\s*\(")
+
+
+def parts(text, at):
+    """What stands between the commas of the brackets that open at `at`, and where they end."""
+    found, depth, start, i = [], 0, at + 1, at
+    opens, closes = ("([{<", ")]}>") if text[at] == "<" else ("([{", ")]}")
+    while i < len(text):
+        depth += (text[i] in opens) - (text[i] in closes)
+        if depth == 0 or depth == 1 and text[i] == ",":
+            found.append(text[start:i].strip("{} \n"))
+            start = i + 1
+        if depth == 0:
+            return found, i + 1
+        i += 1
+    return found, i
+
+
+def called_with(text, name, number):
+    """Whether a call of a method by that name takes the number, in angles or as an argument, or as what it is asked of, but for
+    a shift or a power."""
+    if number != "3" and re.search(r"\b%s\s*\.\s*$" % number, text[: name.start()]):
+        return True
+    at, taken = name.end(), []
+    while at < len(text) and len(taken) < 2:
+        opened = re.compile(r"\s*(?:::\s*(?=<))?(?=[(<])").match(text, at)
+        if not opened:
+            break
+        found, at = parts(text, opened.end())
+        taken.append(found)
+    return any(number in found for found in taken)
 
 
 def conversions(text):
@@ -61,7 +112,9 @@ def conversions(text):
         if named:
             constants[named.group(1)] = value(named.group(2))
     numbers = "\n".join(plain_numbers(line, constants) for line in lines)
-    found = sorted({numbers.count("\n", 0, m.start()) for m in CONVERSION.finditer(numbers)})
+    places = [m.start() for pattern in (CONVERSION, UNNAMED) for m in pattern.finditer(numbers)]
+    places += [m.start() for names, number in METHODS for m in names.finditer(numbers) if called_with(numbers, m, number)]
+    found = sorted({numbers.count("\n", 0, place) for place in places})
     return [(n + 1, lines[n].strip()) for n in found]
 
 
@@ -98,6 +151,89 @@ BAD = [
     "    ghost low = { x };\n    fn f(x: u32) -> u32 { x / 8 }",
     "    ghost low: { x } by { y },\n    p: u32 = x / 8,",
     "let ghost = { x / 8 };",
+    # by methods
+    "let b = n.div_ceil(8);",
+    "let b = n.div_floor(8);",
+    "let b = n.div_euclid(8);",
+    "let r = p.rem_euclid(8);",
+    "let b = n.div_exact(8);",
+    "let b = p.wrapping_div(8);",
+    "let b = p.checked_div(8);",
+    "let b = p.saturating_div(8);",
+    "let b = p.overflowing_div(8);",
+    "let b = p.wrapping_div_euclid(8);",
+    "let r = p.wrapping_rem(8);",
+    "let r = p.checked_rem(8);",
+    "let r = p.overflowing_rem(8);",
+    "let r = p.checked_rem_euclid(8);",
+    "let p = b.wrapping_mul(8);",
+    "let p = b.checked_mul(8)?;",
+    "let p = b.saturating_mul(8);",
+    "let p = b.overflowing_mul(8);",
+    "let p = b.strict_mul(8);",
+    "let p = b.unchecked_mul(8);",
+    "let p = b.widening_mul(8);",
+    "let p = b.carrying_mul(8, r);",
+    "let p = b.mul_add(8, r);",
+    "let p = b.mul(8);",
+    "let b = p.div(8);",
+    "let r = p.rem(8);",
+    "p.mul_assign(8);",
+    "let end = p.next_multiple_of(8);",
+    "let end = p.checked_next_multiple_of(8);",
+    "if p.is_multiple_of(8) {",
+    "for eight in chars.chunks(8) {",
+    "for eight in chars.chunks_mut(8) {",
+    "for eight in chars.chunks_exact(8) {",
+    "for eight in chars.chunks_exact_mut(8) {",
+    "for eight in chars.rchunks(8) {",
+    "for eight in chars.rchunks_exact(8) {",
+    "for eight in &chars.iter().chunks(8) {",
+    "for eight in chars.as_chunks::<8>().0 {",
+    "let (eights, rest): (&[[u8; 8]], &[u8]) = chars.as_chunks();",
+    "for eight in chars.as_rchunks::<8>().1 {",
+    "for eight in chars.iter().array_chunks::<8>() {",
+    "for eight in chars.iter().array_chunks() {",
+    "for eight in chars.windows(8) {",
+    "for eight in chars.array_windows::<8>() {",
+    "for p in (0..n).step_by(8) {",
+    "let b = p.shr(3);",
+    "let b = p.wrapping_shr(3);",
+    "let b = p.checked_shr(3)?;",
+    "let b = p.overflowing_shr(3);",
+    "let p = b.shl(3);",
+    "let p = b.wrapping_shl(3);",
+    "let p = b.unbounded_shl(3);",
+    "p.shr_assign(3);",
+    "let b = p / 2u32.pow(3);",
+    "let b = p / 2usize.wrapping_pow(3);",
+    "let p = b * two.checked_pow(3)?;",
+    "let r = p.bitand(7);",
+    # the number in other words, and the method by its path
+    "let b = n.div_ceil(0x8);",
+    "let b = n.div_ceil(0b1000);",
+    "let b = n.div_ceil(0o10);",
+    "let b = n.div_ceil(8u32);",
+    "let b = n.div_ceil(8_usize);",
+    "let b = n.div_ceil((8));",
+    "let b = n.div_ceil(8 as u64);",
+    "let b = n.div_ceil({ 8 });",
+    "let b = n.div_ceil(u64::from(8u8));",
+    "let b = n.div_ceil(u8::BITS);",
+    "let b = p / u8::BITS;",
+    "let p = b * std::mem::size_of::<u64>();",
+    "const BYTE: u32 = 8;\nlet b = n.div_ceil(BYTE);",
+    "    const BYTE: u32 = 8;\nlet b = n.div_ceil(Self::BYTE) + p / Self::BYTE;",
+    "let b = n\n    .div_ceil(\n        8,\n    );",
+    "let b = u32::div_ceil(n, 8);",
+    "let b = u32::div_ceil(rest(n, 1), 8u32);",
+    "let b = Div::div(p, 8);",
+    "for eight in <[u8]>::chunks(chars, 8) {",
+    "let p = 8u32.wrapping_mul(b);",
+    "let p = u32::wrapping_mul(8, b);",
+    "let b = f(n).div_ceil(8) + 1;",
+    "let eights = counted(n.div_ceil(8), m);",
+    "let b = u32::wrapping_shr(p, 0x3);",
 ]
 GOOD = [
     "let b = p.byte();",
@@ -119,6 +255,20 @@ GOOD = [
     "struct S {\n    p: u32,\n    ghost small: { P (p % 8) } by { small (8 * p) },\n}",
     "impl Low for Place {\n    ghost low = { λ x. x.0 / 8 };\n}",
     "trait Low {\n    ghost low: { (x : Self) → x ≡ x * 8 };\n    fn f(x: Self) -> u32\n        ensures { result ≡ x / 8 };\n}",
+    # by methods, of other numbers, and other methods and functions
+    "let c = (m + 7).div_ceil(64);",
+    "for load in 0..count.div_ceil(56) {",
+    "for cell in cells.chunks(4) {",
+    "let c = cells.as_chunks::<4>().0;",
+    "let n = n.div_ceil(f(8));",
+    "let n = n.min(8).div_ceil(64);",
+    "let n = n.wrapping_mul(3).saturating_add(8).saturating_sub(7);",
+    "for p in (0..8).step_by(2) {",
+    "let n = 3u32.pow(2) + x.pow(8) + x.shl(8) + x.wrapping_mul(3);",
+    "let x = word(bytes, 8) + remaining(8) + divided(8) + chunk(8);",
+    "let x = u32::BITS + u64::BITS + size_of::<u32>();",
+    "    ensures { result ≡ div_ceil n 8 }\n    requires { (rem_euclid(8) ≡ chunks(8)) }",
+    "// n.div_ceil(8)",
 ]
 
 
