@@ -61,7 +61,8 @@ def plain_numbers(line, constants):
 CONVERSION = re.compile(r"[*/%]=?\s*8\b|\b8\s*\*|(?:>>|<<)=?\s*3\b|(?<!&)&=?\s*!?\s*7\b|\b7\s*&(?!&)")
 
 # The same by a method, also where it is called by its path, with the number that it must not have: a product, division or
-# remainder of any kind, what takes a slice or a range eight by eight, a shift by 3, 2 to the power of 3, and a mask of 7.
+# remainder of any kind, what takes a slice or a range in chunks or by steps of eight, a shift by 3, 2 to the power of 3, and a
+# mask of 7.
 METHODS = [
     (r"(?:\w+_)?(?:mul|div|rem)(?:_\w+)?|\w*chunks(?:_\w+)?|(?:\w+_)?windows|step_by|\w*multiple_of", "8"),
     (r"(?:\w+_)?(?:shl|shr|pow)(?:_\w+)?", "3"),
@@ -80,7 +81,7 @@ def parts(text, at):
     while i < len(text):
         depth += (text[i] in opens) - (text[i] in closes)
         if depth == 0 or depth == 1 and text[i] == ",":
-            found.append(text[start:i].strip("{} \n"))
+            found.append(text[start:i].strip("{}&! \n"))
             start = i + 1
         if depth == 0:
             return found, i + 1
@@ -209,6 +210,8 @@ BAD = [
     "let b = p / 2usize.wrapping_pow(3);",
     "let p = b * two.checked_pow(3)?;",
     "let r = p.bitand(7);",
+    "let r = p.bitand(!7);",
+    "let r = p.shr(&3);",
     # the number in other words, and the method by its path
     "let b = n.div_ceil(0x8);",
     "let b = n.div_ceil(0b1000);",
