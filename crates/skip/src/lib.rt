@@ -3,8 +3,9 @@
 // index j. The tables (`skip_tables`) tell these indices, highest first; so their places rise, and only these are compared.
 //
 // After a step the mark is 8 b + 1: `first_step` makes one step from any mark, through links that keep to its places, and `many`
-// makes many from such marks. It has a loop for bytes that no index shows, since these are most bytes of most texts, and leaves runs
-// of other bytes to `busy`. All three are compiled for each kind of tables: a loop for each is faster than one for both.
+// makes many from such marks. It has a loop for bytes that no index shows, which are most bytes of most texts where the pattern is
+// short, and leaves runs of other bytes to `busy`. All three are compiled for each kind of tables: a loop for each is faster than one
+// for both.
 #![tactic(auto)]
 
 ghost use Rattle.std.specs.Prelude.{◌≡◌, ◌↔◌, true, [], IfOk, get_or, ◌+◌, ◌-◌, ◌*◌, ◌%◌, ◌≤◌, ◌<◌};
@@ -142,7 +143,7 @@ impl Steps for Chains {
     }
 }
 
-// The flags of a block after those of another, lowest first, from this one on. The place of a block's flag e is 8 b + 8 + 57 times
+// The flags of a block after those of another, lowest first, from this block on. The place of a block's flag e is 8 b + 8 + 57 times
 // the block's number + e, less m.
 fn sweep(by: &SearchBy<Words>, b: ByteNo, first: Block, list: &mut [u32]) -> Result<Reached, Full>
     requires m_bound { (chained by.now.search.now.query.pattern.m ≤ 8 * b.0) × (8 * b.0 < places (text_in by.now.search.now.query) (pattern_in by.now.search.now.query)) }
@@ -162,18 +163,20 @@ fn sweep(by: &SearchBy<Words>, b: ByteNo, first: Block, list: &mut [u32]) -> Res
     let mut block = first;
     let mut hits = 0usize;
     while let Some(next) = tables.next_block(v, block) {
-        let p = from + 57 * next.number + next.left.trailing_zeros() - m;
-        block = Block {
-            number: next.number,
-            left: next.left & (next.left - 1),
-        };
-        if query.same(Place(p)) {
-            if list.len() <= hits {
-                return Err(no_cell(Place(p), hits));
+        let start = from + 57 * next.number;
+        let mut left = next.left;
+        while left != 0 {
+            let p = start + left.trailing_zeros() - m;
+            left = left & (left - 1);
+            if query.same(Place(p)) {
+                if list.len() <= hits {
+                    return Err(no_cell(Place(p), hits));
+                }
+                list[hits] = p;
+                hits += 1;
             }
-            list[hits] = p;
-            hits += 1;
         }
+        block = Block { left, ..next };
     }
     let at = b.place_at(1);
     Ok(Reached { at, steps: 1, hits })
@@ -199,10 +202,7 @@ impl Steps for Words {
     }
 }
 
-// Steps from a mark 8 a + 1, the first of them made whatever its byte is, and more up to a byte that is quiet. With chains most
-// bytes of most texts are: by `cold` the loop over these keeps its registers, and where they are not, one call makes the steps of
-// a whole run of bytes.
-#[cold]
+// Steps from a mark 8 a + 1, the first of them made whatever its byte is, and more up to a byte that is quiet.
 fn busy<K: Steps>(
     by: &SearchBy<K>,
     s: Place,
@@ -237,14 +237,62 @@ fn busy<K: Steps>(
     }
 }
 
+// A run of steps as `busy` makes it, by a call that fits the kind.
+trait Runs: Steps {
+    fn run(by: &SearchBy<Self>, s: Place, budget: u32, list: &mut [u32]) -> Result<Reached, Full>
+        requires s_bound { (s.0 % 8 ≡ 1) × (0 < budget) }
+        requires inside { 8 * last_byte (pattern_in by.now.search.now.query) s.0 < places (text_in by.now.search.now.query) (pattern_in by.now.search.now.query) }
+        ensures advanced { AdvanceGives Method.Skip (text_in by.now.search.now.query) (pattern_in by.now.search.now.query) s.0 budget list.old result list.new }
+        ensures onward { IfOk result (λ r. (r.at.0 % 8 ≡ 1) × (0 < r.steps)) };
+}
+
+impl Runs for Chains {
+    // By `cold` the loop over quiet bytes keeps its registers. The search is taken out of what is lent once: for all that the compiler
+    // can tell, what is lent changes with each place that is written to the list, and would be loaded again for each step.
+    #[cold]
+    fn run(
+        by: &SearchBy<Chains>,
+        s: Place,
+        budget: u32,
+        list: &mut [u32],
+    ) -> Result<Reached, Full> {
+        busy::<Chains>(
+            &SearchBy {
+                search: by.search,
+                of: PhantomData,
+            },
+            s,
+            budget,
+            list,
+        )
+    }
+}
+
+impl Runs for Words {
+    // All steps, since no byte is quiet. For the same reason it has a copy of the search, and works out once what no step changes,
+    // such as which flags of the first block lie before the mark. (By chains a copy takes longer than it saves.)
+    #[inline(never)]
+    fn run(by: &SearchBy<Words>, s: Place, budget: u32, list: &mut [u32]) -> Result<Reached, Full> {
+        let own: Search<Skip> = Search {
+            query: by.search.query,
+            cells: by.search.cells,
+            of: PhantomData,
+        };
+        busy::<Words>(
+            &SearchBy {
+                search: &own,
+                of: PhantomData,
+            },
+            s,
+            budget,
+            list,
+        )
+    }
+}
+
 // Many steps, each from a mark 8 a + 1: its byte is b, and that of the next mark, 8 b + 1, lies as many bits on as indices are
 // chained. The last step, whose places need not all lie below the number of places, is for `first_step`.
-fn many<K: Steps>(
-    by: &SearchBy<K>,
-    s: Place,
-    budget: u32,
-    list: &mut [u32],
-) -> Result<Reached, Full>
+fn many<K: Runs>(by: &SearchBy<K>, s: Place, budget: u32, list: &mut [u32]) -> Result<Reached, Full>
     requires { (s.0 ≤ places (text_in by.now.search.now.query) (pattern_in by.now.search.now.query)) × (s.0 % 8 ≡ 1) }
     ensures { AdvanceGives Method.Skip (text_in by.now.search.now.query) (pattern_in by.now.search.now.query) s.0 budget list.old result list.new }
 {
@@ -262,7 +310,7 @@ fn many<K: Steps>(
             at = b.place_at(1).0;
             b = ByteNo(b.0 + stride);
         } else {
-            match busy(by, Place(at), budget - steps, &mut list[hits..]) {
+            match K::run(by, Place(at), budget - steps, &mut list[hits..]) {
                 Ok(more) => {
                     steps += more.steps;
                     hits += more.hits;

@@ -288,20 +288,9 @@ impl Tables<'_, Words> {
         if block.left != 0 {
             return Some(block);
         }
-        if self.pattern.m < 57 * block.number + 65 {
-            return None; // it is the last one
-        }
-        self.later_block(v, block)
-    }
-
-    // The first block after this one that has flags. It is a call, so that the loops over the flags of a pattern with a single
-    // block keep their registers.
-    #[inline(never)]
-    fn later_block(&self, v: u8, block: Block) -> Option<Block>
-        requires { (57 * block.number + 8 ≤ self.now.pattern.now.m) × (block.left ≡ 0) }
-        ensures { MatchOption result ((k : ℕ) → Flagging (lent self.now.pattern.now) v k block.number block.left → k + 7 ≤ self.now.pattern.now.m → 0 ≡ last_shown (lent self.now.pattern.now) v k) (λ r. (block.number ≤ r.number) × (r.number ≡ block.number → r.left ≡ block.left) × (r.left ≡ 0 → ⊥) × ((k : ℕ) → Flagging (lent self.now.pattern.now) v k block.number block.left → Flagging (lent self.now.pattern.now) v k r.number r.left)) }
-    {
-        for number in block.number + 1..blocks(self.pattern.m) {
+        let mut number = block.number;
+        while 57 * number + 65 <= self.pattern.m {
+            number += 1;
             let left = self.flags(v, number);
             if left != 0 {
                 return Some(Block { number, left });

@@ -11,7 +11,6 @@ use Rattle.matcher.specs.Progress.{Advanced}
 use Rattle.matcher.proofs.Writing.{writing_length}
 use Rattle.matcher.proofs.Advancing.{advanced_none, advanced_step}
 use Rattle.matcher.proofs.Rest.{stepped_rest, with_rest}
-use Rattle.skip_tables.proofs.SkipChain.{chained_fits}
 use Rattle.skip.proofs.SkipPlaces.{byte_from, mark_byte, next_byte}
 use Rattle.skip.proofs.SkipSizes.{long_enough}
 use Rattle.skip.proofs.SkipStep.{below_end, mark_from, mark_below, turn_whole, top_odd}

@@ -1,4 +1,4 @@
-use Rattle.std.proofs.Common.{◌≡◌, true, false, ◌*◌, ◌≤◌, ◌<◌, ◌∙◌, length, arith}
+use Rattle.std.proofs.Common.{true, false, ◌*◌, ◌≤◌, ◌<◌, ◌∙◌, length, arith}
 use native.Mathlib.Nat.{mul_comm}
 use Rattle.bits.specs.Packed.{Packed}
 use Rattle.rules.specs.declared.Method.TheVariants.{Skip}
@@ -10,7 +10,7 @@ use Rattle.matcher.proofs.Advancing.{advanced_none, advanced_join}
 use Rattle.matcher.proofs.Rest.{advanced_rest}
 use Rattle.skip.proofs.SkipPlaces.{byte_from, next_byte}
 use Rattle.skip.proofs.SkipSizes.{long_enough}
-use Rattle.skip.proofs.SkipStep.{below_end, mark_from, mark_below, turn_quiet, top_odd}
+use Rattle.skip.proofs.SkipStep.{below_end, mark_from, turn_quiet, top_odd}
 use Rattle.skip.proofs.many.Given.{Over}
 use Rattle.skip.proofs.many.Goals as goal
 use Rattle.skip.proofs.many.Goals.{At-loop-b, In-loop-b, Start}
@@ -29,12 +29,6 @@ long g c = long_enough _ _ _ c.args.by.now.search.now.ready
 due : (g : Over) (c : In-loop-b g) → 8 * c.loop-b.b.0 < places (text_in c.args.by.now.search.now.query) (pattern_in c.args.by.now.search.now.query)
 due g c = below_end _ _ _ c.args.by.now.search.now.ready.inside (rw (c.place.ensures ∙ mul_comm _ 8) at c.loop-b-test.true)
 
--- so the mark does
-mark_due : (g : Over) (c : In-loop-b g) → c.loop-b.at < places (text_in c.args.by.now.search.now.query) (pattern_in c.args.by.now.search.now.query)
-mark_due g c =
-    let q = c.args.by.now.search.now.query in
-    mark_below (text_in q) (pattern_in q) c.loop-b.at c.loop-b.b.0 (long_enough _ _ _ c.args.by.now.search.now.ready) c.loop-b.invariant.1 (due g c)
-
 -- the list has the cells that are written
 written : (g : Over) (c : At-loop-b g) → c.loop-b.hits ≤ length c.loop-b.list
 written g c =
@@ -48,11 +42,11 @@ quiet-requires g c =
     let q = c.args.by.now.search.now.query in
     (byte_from l.at q.n q.pattern.m l.b.0 (long g (goal.at.quiet-requires g c).Start) l.invariant.1 l.invariant.0, due g (goal.at.quiet-requires g c).In-loop-b)
 
-pub busy-requires : goal.busy-requires
-busy-requires g c =
+pub run-requires : goal.run-requires
+run-requires g c =
     record {
       s_bound = (c.loop-b.invariant.0, omega (arith, c.if-steps-budget.true));
-      inside = rw c.loop-b.invariant.1 at (due g (goal.at.busy-requires g c).In-loop-b);
+      inside = rw c.loop-b.invariant.1 at (due g (goal.at.run-requires g c).In-loop-b);
     }
 
 pub returns-in-Err : goal.returns-in-Err
@@ -63,7 +57,7 @@ returns-in-Err g c =
     let t = text g s in
     let w = pattern g s in
     let fits = written g (goal.at.returns-in-Err g c).At-loop-b in
-    let more = advanced_rest l.list l.hits fits Skip t w _ _ _ true c.busy.new.list _ _ c.in-Err.ensures.advanced in
+    let more = advanced_rest l.list l.hits fits Skip t w _ _ _ true c.run.new.list _ _ c.in-Err.ensures.advanced in
     rw (c.after.ensures.0, c.after.ensures.1, c.after.ensures.2)
     (advanced_join Skip t w a.s.0 a.budget a.list.now 0 l.at l.steps l.hits l.list _ _ _ true _ (omega arith) l.invariant.2 more)
 
@@ -75,7 +69,7 @@ loop-b-preserved g c =
     let t = text g s in
     let w = pattern g s in
     let fits = written g (goal.at.loop-b-preserved g c).At-loop-b in
-    let more = advanced_rest l.list l.hits fits Skip t w _ _ _ false c.busy.new.list _ _ c.in-Ok.ensures.advanced in (
+    let more = advanced_rest l.list l.hits fits Skip t w _ _ _ false c.run.new.list _ _ c.in-Ok.ensures.advanced in (
       c.in-Ok.ensures.onward.0,
       c.last_byte-b-in-Ok.ensures,
       advanced_join Skip t w a.s.0 a.budget a.list.now 0 l.at l.steps l.hits l.list _ _ _ false _ (omega arith) l.invariant.2 more,

@@ -4,17 +4,16 @@ use mathlib.Core.Path.{◌≡◌, refl, ap, ◌∙◌}
 use mathlib.Core.Bool.{true, false}
 use mathlib.Core.List.{List}
 use native.Mathlib.Nat.{mul_comm}
-use native.Mathlib.Decide.{dec_le, ℕ_discrete}
 use native.Mathlib.Omega.{arith}
 use lib.Bits.{bit_and, and_le_l, and_le_r}
-use lib.Count.{count_trailing_zeros, trailing_le}
+use lib.Count.{count_trailing_zeros}
 use lib.ListN.{get_or}
 use Rattle.bits.specs.Packed.{Packed}
 use Rattle.rules.specs.Pattern.{Pattern}
 use Rattle.rules.specs.Occurrence.{occurs, occurrences}
 use Rattle.rules.specs.Skip.{last_byte}
 use Rattle.matcher.specs.Tables.{shows_byte, chained}
-use Rattle.skip_tables.specs.SkipChains.{last_shown, Flagging}
+use Rattle.skip_tables.specs.SkipChains.{last_shown}
 use Rattle.matcher.specs.Asked.{text_in, pattern_in}
 use Rattle.matcher.specs.Progress.{Writing}
 use Rattle.rules.proofs.Occurrence.{occurrences_none}
@@ -27,23 +26,11 @@ use Rattle.skip.proofs.SkipPlaces.{mark_byte, byte_of, byte_is, walk_by, walk_fo
 use Rattle.skip.proofs.SkipSizes.{long_enough}
 use Rattle.skip.proofs.SkipStep.{below_top, place_fits, place_below, written_more, skip_full, skip_all}
 use Rattle.skip.proofs.sweep.Goals as goal
-use Rattle.skip.proofs.sweep.Goals.{After-place-from, In-Some, Start}
+use Rattle.skip.proofs.sweep.Goals.{After-place-from, In-Some, In-loop-left, Start}
 
 -- flags that are cut off are as few bits as before
 and_small : (x y : ℕ) → x < 2 ^ 64 → bit_and x y < 2 ^ 64
 and_small x y h = omega (arith, and_le_l x y)
-
--- fewer flags, or those of a later block
-fewer_left : (m b f c g h : ℕ) → b ≤ c → c < m → (c ≡ b → g ≡ f) → g < 2 ^ 64 → h < g → (m - c) * 2 ^ 64 + h < (m - b) * 2 ^ 64 + f
-fewer_left m b f c g h l few same small less = go (ℕ_discrete c b)
-  where
-    go : Dec (c ≡ b) → (m - c) * 2 ^ 64 + h < (m - b) * 2 ^ 64 + f
-    go (yes e) = let q : g ≡ f = same e in omega arith
-    go (no n) = apart (dec_le c b)
-      where
-        apart : Dec (c ≤ b) → (m - c) * 2 ^ 64 + h < (m - b) * 2 ^ 64 + f
-        apart (yes k) = absurd (n (omega arith))
-        apart (no k) = omega arith
 
 -- the text and the pattern
 abbrev text : Start → Packed
@@ -74,13 +61,13 @@ index k m b long far h = within k (chained m) (8 * b) m h far (chained_fits m lo
     within : (j k x m : ℕ) → j + (x + 1 - k) ≤ x + 1 → k ≤ x → k + 7 ≤ m → j + 7 ≤ m
     within j k x m h g l = omega arith
 
--- The lowest flag of the next block: its index, one more than which is j, and its place.
-module _ (c : In-Some) where
+-- The lowest flag of the block: its index, one more than which is j, and its place.
+module _ (c : In-loop-left) where
   at_least : 15 ≤ c.args.by.now.search.now.query.pattern.m
   at_least = long_enough _ _ _ c.args.by.now.search.now.ready
 
   abbrev f : ℕ
-  f = c.in-Some.next.left
+  f = c.loop-left.left
 
   abbrev block : ℕ
   block = c.in-Some.next.number
@@ -88,23 +75,23 @@ module _ (c : In-Some) where
   abbrev v : ℕ
   v = get_or c.args.by.now.search.now.query.text.now c.args.b.0 0
 
-  abbrev u : Sweeping (text_in c.args.by.now.search.now.query) (pattern_in c.args.by.now.search.now.query) c.args.b.0 v (8 * c.args.b.0 + 1 - chained c.args.by.now.search.now.query.pattern.m) c.args.list.now 0 c.loop-next.list c.loop-next.block.number c.loop-next.block.left c.loop-next.hits
-  u = c.loop-next.invariant.1
+  abbrev u : Sweeping (text_in c.args.by.now.search.now.query) (pattern_in c.args.by.now.search.now.query) c.args.b.0 v (8 * c.args.b.0 + 1 - chained c.args.by.now.search.now.query.pattern.m) c.args.list.now 0 c.loop-left.list c.in-Some.next.number c.loop-left.left c.loop-left.hits
+  u = c.loop-left.invariant.1
 
   abbrev j : ℕ
   j = c.args.by.now.search.now.query.pattern.m - 7 - 57 * block - count_trailing_zeros 64 f
 
   small : f < 2 ^ 64
-  small = search rules
+  small = c.loop-left.invariant.0
 
-  flagging : Flagging (pattern_in c.args.by.now.search.now.query) v u.k block f
-  flagging = c.in-Some.ensures.3 u.k u.flagging
+  lit : f ≡ 0 → ⊥
+  lit = λ e. absurd (omega (arith, c.loop-left-test.true))
 
   fits : 57 * block + count_trailing_zeros 64 f + 8 ≤ c.args.by.now.search.now.query.pattern.m
-  fits = low_fits (pattern_in c.args.by.now.search.now.query) v u.k block f flagging small c.in-Some.ensures.2
+  fits = low_fits (pattern_in c.args.by.now.search.now.query) v u.k block f u.flagging small lit
 
   last_is : j ≡ last_shown (pattern_in c.args.by.now.search.now.query) v u.k
-  last_is = lowest_is (pattern_in c.args.by.now.search.now.query) v u.k block f flagging small c.in-Some.ensures.2 (index u.k c.args.by.now.search.now.query.pattern.m c.args.b.0 at_least c.requires.m_bound.0 u.low)
+  last_is = lowest_is (pattern_in c.args.by.now.search.now.query) v u.k block f u.flagging small lit (index u.k c.args.by.now.search.now.query.pattern.m c.args.b.0 at_least c.requires.m_bound.0 u.low)
 
   up : j ≤ u.k
   up = omega (arith, last_is, (below_is (shows_byte (pattern_in c.args.by.now.search.now.query) v) u.k).within)
@@ -120,7 +107,7 @@ module _ (c : In-Some) where
       let contains : 8 * c.args.b.0 + 8 ≤ 8 * c.args.b.0 + 1 - chained c.args.by.now.search.now.query.pattern.m + c.args.by.now.search.now.query.pattern.m = omega (arith, chained_fits c.args.by.now.search.now.query.pattern.m at_least, c.requires.m_bound.0) in
       sweep_gap (text_in c.args.by.now.search.now.query) (pattern_in c.args.by.now.search.now.query) c.args.b.0 (8 * c.args.b.0 + 1 - chained c.args.by.now.search.now.query.pattern.m) u.k j contains u.low (rw (byte_is c.args.by.now.search.now.query.text.now c.args.b.0 byte) at shown) up
 
-  writing : Writing c.args.list.now 0 (occurrences (text_in c.args.by.now.search.now.query) (pattern_in c.args.by.now.search.now.query) (8 * c.args.b.0 + 1 - chained c.args.by.now.search.now.query.pattern.m) (8 * c.args.b.0 + 1 - j)) c.loop-next.list c.loop-next.hits
+  writing : Writing c.args.list.now 0 (occurrences (text_in c.args.by.now.search.now.query) (pattern_in c.args.by.now.search.now.query) (8 * c.args.b.0 + 1 - chained c.args.by.now.search.now.query.pattern.m) (8 * c.args.b.0 + 1 - j)) c.loop-left.list c.loop-left.hits
   writing = rw gap u.writing
 
   -- its place as the code has it
@@ -143,15 +130,10 @@ module _ (c : In-Some) where
 
   -- the flags after it are fewer
   fewer : bit_and f (f - 1) < f
-  fewer = less f _ c.in-Some.ensures.2 (and_le_r f (f - 1))
+  fewer = less f _ lit (and_le_r f (f - 1))
     where
       less : (x y : ℕ) → (x ≡ 0 → ⊥) → y ≤ x - 1 → y < x
       less x y n l = omega arith
-
-  measured : (c.args.by.now.search.now.query.pattern.m - block) * 2 ^ 64 + bit_and f (f - 1) < (c.args.by.now.search.now.query.pattern.m - c.loop-next.block.number) * 2 ^ 64 + c.loop-next.block.left
-  measured =
-      let e = c.in-Some.ensures in
-      fewer_left c.args.by.now.search.now.query.pattern.m c.loop-next.block.number c.loop-next.block.left block f (bit_and f (f - 1)) e.0 (omega (arith, fits)) e.1 small fewer
 
   -- the flags after it
   rest : (list : List ℕ) (written : ℕ) → Writing c.args.list.now 0 (occurrences (text_in c.args.by.now.search.now.query) (pattern_in c.args.by.now.search.now.query) (8 * c.args.b.0 + 1 - chained c.args.by.now.search.now.query.pattern.m) (8 * c.args.b.0 + 1 - (j - 1))) list written
@@ -160,7 +142,7 @@ module _ (c : In-Some) where
       record {
         k = j - 1;
         low = omega (arith, low);
-        flagging = flagging_rest (pattern_in c.args.by.now.search.now.query) v u.k block f flagging small c.in-Some.ensures.2;
+        flagging = flagging_rest (pattern_in c.args.by.now.search.now.query) v u.k block f u.flagging small lit;
         writing = w;
       }
 
@@ -179,25 +161,33 @@ loop-next-init c =
       },
     )
 
-pub overflow_mul-p : goal.overflow_mul-p
-overflow_mul-p c = omega (arith, fits (goal.at.overflow_mul-p c).In-Some, c.args.by.now.search.now.ready.pattern.few_bits)
+-- the block's number fits the pattern
+inside_pattern : (c : In-Some) → 57 * c.in-Some.next.number + 8 ≤ c.args.by.now.search.now.query.pattern.m
+inside_pattern c =
+    let u = c.loop-next.invariant.1 in
+    (c.in-Some.ensures.3 u.k u.flagging).inside
 
-pub overflow_add-p : goal.overflow_add-p
-overflow_add-p c =
-    omega (arith, first_bit (goal.at.overflow_add-p c).After-place-from, fits (goal.at.overflow_add-p c).In-Some, c.args.by.now.search.now.ready.pattern.few_bits, c.args.by.now.search.now.ready.few_bits, c.requires.m_bound.1)
+pub overflow_mul-start : goal.overflow_mul-start
+overflow_mul-start c =
+    omega (arith, inside_pattern (goal.at.overflow_mul-start c).In-Some, c.args.by.now.search.now.ready.pattern.few_bits)
 
-pub overflow_add-p-in-Some : goal.overflow_add-p-in-Some
-overflow_add-p-in-Some c =
-    let e = (goal.at.overflow_add-p-in-Some c).In-Some in
-    omega (arith, trailing_le 64 (f e), first_bit (goal.at.overflow_add-p-in-Some c).After-place-from, fits e, c.args.by.now.search.now.ready.pattern.few_bits, c.args.by.now.search.now.ready.few_bits, c.requires.m_bound.1)
+pub overflow_add-start : goal.overflow_add-start
+overflow_add-start c =
+    omega (arith, first_bit (goal.at.overflow_add-start c).After-place-from, inside_pattern (goal.at.overflow_add-start c).In-Some, c.args.by.now.search.now.ready.pattern.few_bits, c.args.by.now.search.now.ready.few_bits, c.requires.m_bound.1)
+
+pub loop-left-init : goal.loop-left-init
+loop-left-init c =
+    let u = c.loop-next.invariant.1 in
+    let fits : c.in-Some.next.left < 2 ^ 64 = search rules in
+    (fits, record { k = u.k; low = u.low; flagging = c.in-Some.ensures.3 u.k u.flagging; writing = u.writing })
 
 pub overflow_sub-p : goal.overflow_sub-p
 overflow_sub-p c =
-    omega (arith, first_bit (goal.at.overflow_sub-p c).After-place-from, low (goal.at.overflow_sub-p c).In-Some, fits (goal.at.overflow_sub-p c).In-Some)
+    omega (arith, first_bit (goal.at.overflow_sub-p c).After-place-from, low (goal.at.overflow_sub-p c).In-loop-left, fits (goal.at.overflow_sub-p c).In-loop-left)
 
 pub same-requires : goal.same-requires
 same-requires c =
-    let e = (goal.at.same-requires c).In-Some in (
+    let e = (goal.at.same-requires c).In-loop-left in (
       c.args.by.now.search.now.ready.pattern.few_bits,
       rw (place_is e) (place_fits _ c.args.by.now.search.now.query.n c.args.by.now.search.now.query.pattern.m (2 ^ 30) (inside e) c.args.by.now.search.now.ready.few_bits),
     )
@@ -205,43 +195,37 @@ same-requires c =
 pub returns-then-list-hits : goal.returns-then-list-hits
 returns-then-list-hits c =
     let s = (goal.at.returns-then-list-hits c).Start in
-    let e = (goal.at.returns-then-list-hits c).In-Some in
+    let e = (goal.at.returns-then-list-hits c).In-loop-left in
     let a = s.args in
     let b = a.b.0 in
     let found : occurs (text s) (pattern s) (8 * b + 1 - j e) ≡ true = compared_place _ _ _ _ _ true (rw (place_is e) at c.same.ensures) c.if-same.true (inside e) in
     let last : last_byte (pattern s) (mark s) ≡ b = mark_byte b a.by.now.search.now.query.pattern.m c.requires.m_bound.0 (long s) in
     rw (c.no_cell.ensures.0, c.no_cell.ensures.2) (
       rw (place_is e)
-          (skip_full (text s) (pattern s) (mark s) a.list.now 0 c.loop-next.list c.loop-next.hits (8 * b + 1 - j e) (writing e) (long s) (omega arith)
+          (skip_full (text s) (pattern s) (mark s) a.list.now 0 c.loop-left.list c.loop-left.hits (8 * b + 1 - j e) (writing e) (long s) (omega arith)
           (omega (arith, low e)) (rw last (below_top (8 * b + 1) (j e) (some e) (omega (arith, low e)))) found c.if-list-hits.true),
       c.no_cell.ensures.1,
     )
 
-pub loop-next-smaller-then-same : goal.loop-next-smaller-then-same
-loop-next-smaller-then-same c = measured (goal.at.loop-next-smaller-then-same c).In-Some
-
-pub loop-next-preserved-then-same : goal.loop-next-preserved-then-same
-loop-next-preserved-then-same c =
-    let s = (goal.at.loop-next-preserved-then-same c).Start in
-    let e = (goal.at.loop-next-preserved-then-same c).In-Some in
+pub loop-left-preserved-then-same : goal.loop-left-preserved-then-same
+loop-left-preserved-then-same c =
+    let s = (goal.at.loop-left-preserved-then-same c).Start in
+    let e = (goal.at.loop-left-preserved-then-same c).In-loop-left in
     let a = s.args in
     let b = a.b.0 in
     let found : occurs (text s) (pattern s) (8 * b + 1 - j e) ≡ true = compared_place _ _ _ _ _ true (rw (place_is e) at c.same.ensures) c.if-same.true (inside e) in (
       omega (arith, fewer e, small e),
       rest e _ _
           (rw (place_is e)
-          (written_more (text s) (pattern s) (mark s) a.list.now 0 c.loop-next.list c.loop-next.hits (8 * b + 1 - j e) (writing e) _
+          (written_more (text s) (pattern s) (mark s) a.list.now 0 c.loop-left.list c.loop-left.hits (8 * b + 1 - j e) (writing e) _
           (walk_found (text s) (pattern s) b (mark s) (j e) (covers s) (low e) (j e - 1) (omega (arith, some e)) (below_is (shows_byte (pattern s) (byte_of (text s) (pattern s) b)) (j e - 1)).within
           found) c.if-list-hits.false)),
     )
 
-pub loop-next-smaller : goal.loop-next-smaller
-loop-next-smaller c = measured (goal.at.loop-next-smaller c).In-Some
-
-pub loop-next-preserved : goal.loop-next-preserved
-loop-next-preserved c =
-    let s = (goal.at.loop-next-preserved c).Start in
-    let e = (goal.at.loop-next-preserved c).In-Some in
+pub loop-left-preserved : goal.loop-left-preserved
+loop-left-preserved c =
+    let s = (goal.at.loop-left-preserved c).Start in
+    let e = (goal.at.loop-left-preserved c).In-loop-left in
     let b = s.args.b.0 in
     let found : occurs (text s) (pattern s) (8 * b + 1 - j e) ≡ false = compared_place _ _ _ _ _ false (rw (place_is e) at c.same.ensures) c.if-same.false (inside e) in (
       omega (arith, fewer e, small e),

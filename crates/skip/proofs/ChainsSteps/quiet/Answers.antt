@@ -2,13 +2,11 @@
 -- Assumes nothing.
 use Prim.Native.Nat.{ℕ, ◌+◌, ◌-◌, ◌*◌, ◌<◌}
 use mathlib.Core.Path.{◌≡◌, ap, ◌∙◌}
-use mathlib.Core.List.{[]}
 use native.Mathlib.Omega.{arith}
 use borrow.Author.Tests.{eqb-true}
 use lib.ListN.{get_or}
 use Rattle.bits.specs.Packed.{bits_at}
 use Rattle.bits.proofs.Run.{bits_lt}
-use Rattle.rules.specs.Occurrence.{occurrences}
 use Rattle.matcher.specs.Tables.{last_below, in_chain, chained}
 use Rattle.matcher.specs.Asked.{text_in, pattern_in}
 use Rattle.skip_tables.proofs.SkipChain.{chained_fits}

@@ -1,6 +1,6 @@
 -- The step by words meets its contract: the flags of the byte's indices are swept.
 -- Assumes nothing.
-use Rattle.std.proofs.Common.{◌+◌, ◌≤◌, ◌<◌, arith}
+use Rattle.std.proofs.Common.{arith}
 use Rattle.skip_tables.proofs.SkipChain.{chained_fits}
 use Rattle.skip.proofs.SkipPlaces.{chained_near}
 use Rattle.skip.proofs.SkipSizes.{long_enough}
