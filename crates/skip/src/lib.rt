@@ -269,8 +269,9 @@ impl Runs for Chains {
 }
 
 impl Runs for Words {
-    // All steps, since no byte is quiet. For the same reason it has a copy of the search, and works out once what no step changes,
-    // such as which flags of the first block lie before the mark. (By chains a copy takes longer than it saves.)
+    // This makes all steps, since no byte is quiet. It has a copy of the search, which no place that is written can change: so what is
+    // the same for each step, such as which flags of the first block lie before the mark, is worked out once. (By chains a copy takes
+    // longer than it saves.)
     #[inline(never)]
     fn run(by: &SearchBy<Words>, s: Place, budget: u32, list: &mut [u32]) -> Result<Reached, Full> {
         let own: Search<Skip> = Search {

@@ -16,7 +16,7 @@ use Rattle.skip.proofs.SkipSizes.{long_enough}
 use Rattle.skip.proofs.SkipStep.{below_end, mark_from, mark_below, turn_whole, top_odd}
 use Rattle.skip.proofs.busy.Given.{Over}
 use Rattle.skip.proofs.busy.Goals as goal
-use Rattle.skip.proofs.busy.Goals.{After-place, At-loop-one, In-Ok, Start}
+use Rattle.skip.proofs.busy.Goals.{At-loop-one, In-Ok, Start}
 
 -- text and pattern
 abbrev text : (g : Over) → Start g → Packed

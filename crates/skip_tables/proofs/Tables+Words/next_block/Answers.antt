@@ -4,7 +4,7 @@ use Rattle.skip_tables.proofs.SkipWords.{flagging_more, flagging_end}
 use Rattle.skip_tables.proofs.Tables+Words.next_block.Goals as goal
 use Rattle.skip_tables.proofs.Tables+Words.next_block.Goals.{In-loop-number}
 
--- the block after one that has no flag
+-- the next block lies inside the pattern
 module _ (c : In-loop-number) where
   inside : 57 * (c.loop-number.number + 1) + 8 ≤ c.args.self.now.pattern.now.m
   inside = omega (arith, c.loop-number-test.true)
