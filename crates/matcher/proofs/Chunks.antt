@@ -1,16 +1,18 @@
 -- Comparison by loads: the pattern stands at a place just if the loads of the text and of the pattern that cover it are the same
 -- where those of the second run have a 1.
 -- Assumes nothing.
-use mathlib.Core.Path.{◌≡◌, refl, sym, ap, ◌∙◌}
+use mathlib.Core.Path.{◌≡◌, refl, sym, ap, ap₂, ◌∙◌}
 use mathlib.Core.Logic.{◌↔◌, ◌⊎◌, inl, inr}
 use mathlib.Core.Bool.{Bool, true, false, true≢false, not}
 use mathlib.Core.List.{List}
-use Prim.Native.Nat.{ℕ, ◌+◌, ◌-◌, ◌≤◌, ◌<◌}
+use Prim.Native.Nat.{ℕ, zero, suc, ◌+◌, ◌-◌, ◌*◌, ◌/◌, ◌%◌, ◌≤◌, ◌<◌, min}
 use native.Mathlib.Decide.{dec_le}
 use native.Mathlib.Omega.{arith}
 use native.Mathlib.Nat.{add_assoc}
 use lib.Dec.{eqb}
+use lib.ListN.{length, take, drop}
 use borrow.Author.Tests.{eqb-true, eq-eqb}
+use Rattle.std.proofs.lemmas.List.{get_or-drop, take_rest, drop_min}
 use Rattle.bits.specs.Packed.{Packed, bit_at, bits_at, bit_of}
 use Rattle.bits.proofs.Run.{bit_of_bits}
 use Rattle.rules.specs.Pattern.{Pattern, agrees}
@@ -97,6 +99,41 @@ module _ (t : Packed) (w : Pattern) (s : ℕ) where
         | inr v ↦ says.0 e j v (omega arith)
       ]))
       (λ e. says.1 (part_agrees (w.count - k) k (omega arith) e))
+
+-- The bits of a text from byte k on.
+bit_from : (bytes : List ℕ) (k p : ℕ) → bit_at (drop k bytes) p ≡ bit_at bytes (p + k * 8)
+unfolding bit_at
+bit_from bytes k p =
+    let byte : k + p / 8 ≡ (p + k * 8) / 8 = omega arith in
+    let offset : p % 8 ≡ (p + k * 8) % 8 = omega arith in
+    rw (get_or-drop k bytes (p / 8) 0, byte, offset) refl
+
+-- several of them
+bits_drop : (bytes : List ℕ) (k p n : ℕ) → bits_at (drop k bytes) p n ≡ bits_at bytes (p + k * 8) n
+unfolding bits_at
+bits_drop bytes k p zero = refl
+bits_drop bytes k p (suc n) =
+    let there : p + n + k * 8 ≡ p + k * 8 + n = omega arith in
+    ap₂ (λ (x y : ℕ). x * 2 + y) (bits_drop bytes k p n) (bit_from bytes k (p + n) ∙ ap (bit_at bytes) there)
+
+-- and as they are read from `&bytes[k..]`
+pub bits_from : (bytes : List ℕ) (k p n : ℕ) → bits_at (take (length bytes - k) (drop k bytes)) p n ≡ bits_at bytes (p + k * 8) n
+bits_from bytes k p n = rw (take_rest bytes k) (bits_drop bytes k p n)
+
+-- Where the pattern stands, the bytes before the place's own play no part: `&text[b..]` is enough, which is empty where the text
+-- ends sooner.
+pub matches_from : (text : List ℕ) (w : Pattern) (s b r : ℕ) → b ≡ min (s / 8) (length text) → r ≡ s % 8
+    → matches (text_of (take (length text - b) (drop b text)) 0) w r ≡ matches (text_of text 0) w s
+matches_from text w s b r from offset =
+    rw (take_rest text b ∙ ap (λ (k : ℕ). drop k text) from ∙ drop_min (s / 8) text, offset)
+    (same_test _ _
+    (λ h. to_matches (text_of text 0) w s (λ j l. rw (bit j) at (matches_at (text_of (drop (s / 8) text) 0) w (s % 8) h j l)))
+    (λ h. to_matches (text_of (drop (s / 8) text) 0) w (s % 8) (λ j l. rw (bit j) (matches_at (text_of text 0) w s h j l))))
+  where
+    bit : (j : ℕ) → bit_at (drop (s / 8) text) (s % 8 + j) ≡ bit_at text (s + j)
+    bit j =
+        let there : s % 8 + j + s / 8 * 8 ≡ s + j = omega arith in
+        bit_from text (s / 8) (s % 8 + j) ∙ ap (bit_at text) there
 
 -- Comparison by loads of 64 bits, however they are made: x is the load of the text, y that of the pattern, c that of its second
 -- run, and b whether they are the same where that has a 1.

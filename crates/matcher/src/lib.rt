@@ -7,6 +7,8 @@ pub mod compare;
 pub mod query;
 pub mod search;
 pub mod steps;
+#[cfg(test)]
+mod tests;
 pub mod wild;
 
 ghost use Rattle.std.specs.Prelude.{◌≡◌, min};

@@ -51,17 +51,19 @@ impl<'a> Query<'a> {
     }
 
     // Whether the pattern stands at s, by all of its bits, where no load needs a test for the end: the text goes on far enough
-    // after them, and either run has its bytes. The last load overlaps the one before it.
+    // after them, and either run has its bytes. The last load overlaps the one before it. Bits are counted from the place's byte
+    // on, so that a load's bit number fits 32 bits however long the pattern is.
     fn stands_inside(&self, s: Place) -> bool
-        requires { (56 < self.now.pattern.m) × (self.now.pattern.m ≤ 2048) × (s.0 ≤ 2 ^ 30) × (s.0 / 8 + self.now.pattern.m / 8 + 9 ≤ length self.now.text.now) × (bytes_for self.now.pattern.m ≤ length self.now.pattern.bytes.now) × (bytes_for self.now.pattern.m ≤ length self.now.pattern.fixed.now) }
+        requires { (56 < self.now.pattern.m) × (s.0 ≤ 2 ^ 30) × (s.0 / 8 + self.now.pattern.m / 8 + 9 ≤ length self.now.text.now) × (bytes_for self.now.pattern.m ≤ length self.now.pattern.bytes.now) × (bytes_for self.now.pattern.m ≤ length self.now.pattern.fixed.now) }
         ensures { result ≡ matches (text_of self.now.text.now 0) (pattern_in self.now) s.0 }
     {
         let Pattern { bytes, fixed, m } = self.pattern;
-        let at = s.0;
+        let text = &self.text[s.byte().0..];
+        let at = s.offset();
         let last = bits::bytes_for(m as u64) as usize - 8;
         for load in 0..last.div_ceil(8) {
             let here = ByteNo(8 * load);
-            let x = load::word_inside(self.text, Place(at + here.place().0));
+            let x = load::word_inside(text, Place(at + here.place().0));
             if !same_where(
                 x,
                 load::eight_bytes(bytes, here),
@@ -73,7 +75,7 @@ impl<'a> Query<'a> {
         }
         let here = ByteNo(last);
         let from = here.place().0;
-        let x = load::word_inside(self.text, Place(at + from));
+        let x = load::word_inside(&text[last..], Place(at));
         same_where(
             x,
             load::eight_bytes(bytes, here),
@@ -84,7 +86,7 @@ impl<'a> Query<'a> {
 
     // The same for a short pattern, and where the text ends sooner.
     fn stands_near_end(&self, s: Place) -> bool
-        requires { (self.now.pattern.m ≤ 2048) × (s.0 ≤ 2 ^ 30) }
+        requires { s.0 ≤ 2 ^ 30 }
         ensures { result ≡ matches (text_of self.now.text.now 0) (pattern_in self.now) s.0 }
     {
         let Pattern { bytes, fixed, m } = self.pattern;
@@ -96,16 +98,24 @@ impl<'a> Query<'a> {
                 m,
             );
         }
-        let at = s.0;
+        let from = s.byte().0.min(self.text.len());
+        let text = &self.text[from..];
+        let at = s.offset();
         for load in 0..(m - 1) / 64 {
             let p = Place(64 * load);
-            let x = load::word_at(self.text, Place(at + p.0));
-            if !same_where(x, load::word_at(bytes, p), load::word_at(fixed, p), 64) {
+            let here = p.byte();
+            let x = load::word_at(text, Place(at + p.0));
+            if !same_where(
+                x,
+                load::word_at_byte(bytes, here),
+                load::word_at_byte(fixed, here),
+                64,
+            ) {
                 return false;
             }
         }
         let last = Place(m - 64);
-        let x = load::word_at(self.text, Place(at + (m - 64)));
+        let x = load::word_at(text, Place(at + (m - 64)));
         same_where(
             x,
             load::word_at(bytes, last),
@@ -116,7 +126,7 @@ impl<'a> Query<'a> {
 
     // Whether the pattern stands at s.
     pub fn stands(&self, s: Place) -> bool
-        requires { (self.now.pattern.m ≤ 2048) × (s.0 ≤ 2 ^ 30) }
+        requires { s.0 ≤ 2 ^ 30 }
         ensures { result ≡ matches (text_of self.now.text.now 0) (pattern_in self.now) s.0 }
     {
         let Pattern { bytes, fixed, m } = self.pattern;
@@ -134,7 +144,7 @@ impl<'a> Query<'a> {
     // The same, for `same` alone: a call in its place keeps it small enough to be inlined. The query is copied for it, so that a
     // caller that makes a query for one place stores it only where the first load does not rule the place out.
     fn rest(self, s: Place) -> bool
-        requires { (self.pattern.m ≤ 2048) × (s.0 ≤ 2 ^ 30) }
+        requires { s.0 ≤ 2 ^ 30 }
         ensures { result ≡ matches (text_of self.entry.text.now 0) (pattern_in self.entry) s.0 }
     {
         self.stands(s)
@@ -143,7 +153,7 @@ impl<'a> Query<'a> {
     // And for a hot loop: one load rules most places out, and `stands`, which is called and not inlined since other
     // code uses it too, settles the others.
     pub fn same(&self, s: Place) -> bool
-        requires { (self.now.pattern.m ≤ 2048) × (s.0 ≤ 2 ^ 30) }
+        requires { s.0 ≤ 2 ^ 30 }
         ensures { result ≡ matches (text_of self.now.text.now 0) (pattern_in self.now) s.0 }
     {
         if s.byte().0 + 8 <= self.text.len() {

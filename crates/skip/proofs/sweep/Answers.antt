@@ -187,10 +187,8 @@ overflow_sub-p c =
 
 pub same-requires : goal.same-requires
 same-requires c =
-    let e = (goal.at.same-requires c).In-loop-left in (
-      c.args.by.now.search.now.ready.pattern.few_bits,
-      rw (place_is e) (place_fits _ c.args.by.now.search.now.query.n c.args.by.now.search.now.query.pattern.m (2 ^ 30) (inside e) c.args.by.now.search.now.ready.few_bits),
-    )
+    let e = (goal.at.same-requires c).In-loop-left in
+    rw (place_is e) (place_fits _ c.args.by.now.search.now.query.n c.args.by.now.search.now.query.pattern.m (2 ^ 30) (inside e) c.args.by.now.search.now.ready.few_bits)
 
 pub returns-then-list-hits : goal.returns-then-list-hits
 returns-then-list-hits c =

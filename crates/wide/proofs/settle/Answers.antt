@@ -26,7 +26,7 @@ pub overflow_shr-f : goal.overflow_shr-f
 overflow_shr-f c = omega (arith, low c, c.loop-f.invariant.from)
 
 pub same-requires : goal.same-requires
-same-requires c = (c.args.search.now.ready.pattern.few_bits, omega (arith, low c, c.args.search.now.ready.few_bits))
+same-requires c = omega (arith, low c, c.args.search.now.ready.few_bits)
 
 pub returns-then-list-hits : goal.returns-then-list-hits
 returns-then-list-hits c =

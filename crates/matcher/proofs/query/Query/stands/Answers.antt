@@ -29,8 +29,7 @@ stands_inside-requires c =
     let two = and_left (long && text) pattern three in
     let inside = leb-true end (length a.self.now.text.now) (and_right long text two) in (
       ltb-true 56 a.self.now.pattern.m (and_left long text two),
-      c.requires.0,
-      c.requires.1,
+      c.requires,
       omega (arith, c.byte.ensures, c.byte-2.ensures),
       rw c.bytes_for-count.ensures at (leb-true bytes (length a.self.now.pattern.bytes.now) (and_right (long && text) pattern three)),
       rw c.bytes_for-count.ensures at (leb-true bytes (length a.self.now.pattern.fixed.now) (and_right ((long && text) && pattern) fixed all)),

@@ -1,8 +1,8 @@
-use mathlib.Core.Path.{◌≡◌, ap}
+use mathlib.Core.Path.{◌≡◌, ap, ◌∙◌}
 use Prim.Native.Nat.{◌+◌, ◌-◌, ◌*◌}
 use mathlib.Core.Bool.{not}
 use native.Mathlib.Omega.{arith}
-use Rattle.matcher.proofs.Chunks.{none_passed, next_differs, next_agrees, last_decides}
+use Rattle.matcher.proofs.Chunks.{bits_from, matches_from, none_passed, next_differs, next_agrees, last_decides}
 use Rattle.matcher.proofs.query.Query.stands_inside.Goals as goal
 
 pub bytes_for-requires : goal.bytes_for-requires
@@ -36,6 +36,7 @@ pub returns-then-not-same_where : goal.returns-then-not-same_where
 returns-then-not-same_where c =
     next_differs _ _ _ _ _ (8 * c.loop-load.load * 8) (omega arith) (rw c.place.ensures at c.word_inside-x.ensures)
     c.eight_bytes.ensures c.eight_bytes-in-loop-load.ensures c.same_where.ensures (ap not c.if-not-same_where.true)
+    ∙ matches_from _ _ _ _ _ (omega (arith, c.byte.ensures)) c.offset-at.ensures
 
 pub loop-load-preserved : goal.loop-load-preserved
 loop-load-preserved c =
@@ -49,9 +50,6 @@ loop-load-preserved c =
 
 pub place-from-requires : goal.place-from-requires
 place-from-requires c = omega arith
-
-pub overflow_add-at-2 : goal.overflow_add-at-2
-overflow_add-at-2 c = omega arith
 
 pub word_inside-x-requires-2 : goal.word_inside-x-requires-2
 word_inside-x-requires-2 c = omega arith
@@ -75,4 +73,5 @@ returns c =
     let is = c.place-from.ensures in
     let back : c.args.self.now.pattern.m - (c.args.self.now.pattern.m - from) ≡ from = omega arith in
     last_decides _ _ _ _ _ (8 * l.load * 8) (c.args.self.now.pattern.m - from) l.invariant.0 (omega arith) (omega arith) (omega arith)
-    (rw back c.word_inside-x-2.ensures) (rw (back, is) c.eight_bytes-2.ensures) (rw (back, is) c.eight_bytes-3.ensures) c.same_where-2.ensures
+    (rw (back, is) (c.word_inside-x-2.ensures ∙ bits_from _ _ _ 64)) (rw (back, is) c.eight_bytes-2.ensures) (rw (back, is) c.eight_bytes-3.ensures) c.same_where-2.ensures
+    ∙ matches_from _ _ _ _ _ (omega (arith, c.byte.ensures)) c.offset-at.ensures

@@ -6,4 +6,4 @@ use Rattle.matcher.proofs.Chunks.{Passed}
 use Rattle.matcher.proofs.query.Query.stands_inside.Given as goal
 
 abbrev pub invariant-loop-load : goal.invariant-loop-load
-invariant-loop-load l = Passed l.self.text.now l.bytes l.fixed l.m l.at (8 * l.load * 8) × (8 * l.load ≤ l.last + 7)
+invariant-loop-load l = Passed l.text l.bytes l.fixed l.m l.at (8 * l.load * 8) × (8 * l.load ≤ l.last + 7)

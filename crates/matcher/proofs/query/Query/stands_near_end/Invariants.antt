@@ -5,4 +5,4 @@ use Rattle.matcher.proofs.Chunks.{Passed}
 use Rattle.matcher.proofs.query.Query.stands_near_end.Given as goal
 
 abbrev pub invariant-loop-load : goal.invariant-loop-load
-invariant-loop-load l = Passed l.self.text.now l.bytes l.fixed l.m l.at (64 * l.load)
+invariant-loop-load l = Passed l.text l.bytes l.fixed l.m l.at (64 * l.load)
