@@ -131,10 +131,10 @@ impl<'a> Query<'a> {
     {
         let Pattern { bytes, fixed, m } = self.pattern;
         let count = bits::bytes_for(m as u64) as usize;
-        if (56 < m)
-            & (s.byte().0 + Place(m).byte().0 + 9 <= self.text.len())
-            & (count <= bytes.len())
-            & (count <= fixed.len())
+        if 56 < m
+            && count <= bytes.len()
+            && count <= fixed.len()
+            && s.byte().0 + Place(m).byte().0 + 9 <= self.text.len()
         {
             return self.stands_inside(s);
         }
